@@ -1,0 +1,3 @@
+-- What the contracts of `font` cite. Each definition is written from the scope's sections 1 to 3 and from OpenType.
+pub mod Single
+pub mod Attributes

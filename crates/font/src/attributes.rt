@@ -1,0 +1,72 @@
+// Properties for specifying font matching attributes.
+ghost use mathlib.Core.Path.{_≡_};
+
+// The angle of an oblique style, in degrees, or none stated.
+pub enum Angle {
+    Unstated,
+    Degrees(f32),
+}
+
+pub enum FontStyle {
+    Normal,
+    Italic,
+    Oblique(Angle),
+}
+
+pub struct FontWidth {
+    pub ratio: f32,
+}
+
+pub struct FontWeight {
+    pub value: f32,
+}
+
+pub struct Attributes {
+    pub width: FontWidth,
+    pub style: FontStyle,
+    pub weight: FontWeight,
+}
+
+impl FontWidth {
+    pub const NORMAL: FontWidth = FontWidth { ratio: 1.0 };
+
+    pub fn new(ratio: f32) -> Self
+        ensures { λ r. ⌜ r .ratio ≡ ratio ⌝ }
+    {
+        FontWidth { ratio }
+    }
+}
+
+impl FontWeight {
+    pub const NORMAL: FontWeight = FontWeight { value: 400.0 };
+    pub const BOLD: FontWeight = FontWeight { value: 700.0 };
+
+    pub fn new(value: f32) -> Self
+        ensures { λ r. ⌜ r .value ≡ value ⌝ }
+    {
+        FontWeight { value }
+    }
+}
+
+impl Attributes {
+    pub const DEFAULT: Attributes = Attributes {
+        width: FontWidth::NORMAL,
+        style: FontStyle::Normal,
+        weight: FontWeight::NORMAL,
+    };
+
+    pub fn new(width: FontWidth, style: FontStyle, weight: FontWeight) -> Self
+        ensures { λ r. ⌜ (r .width ≡ width) × (r .style ≡ style) × (r .weight ≡ weight) ⌝ }
+    {
+        Attributes {
+            width,
+            style,
+            weight,
+        }
+    }
+
+    pub fn base() -> Self
+    {
+        Attributes::DEFAULT
+    }
+}

@@ -1,0 +1,89 @@
+// Single-precision numbers, worked out from their bits.
+ghost use mathlib.Core.Path.{_≡_};
+ghost use lib.Ieee.Scale.{finite};
+ghost use lib.Ieee.{toUnsigned, toSigned};
+ghost use Rattle.font.specs.Single.{orderKey, fixedToSingle, wholeOf};
+
+// The bits of positive infinity.
+const INFINITY: u32 = 0x7F80_0000;
+
+// Whether x is a number: no infinity and no NaN.
+pub fn is_finite(x: f32) -> bool
+    ensures { λ r. ⌜ r ≡ finite x ⌝ }
+{
+    let top = f32::from_bits(INFINITY);
+    if x < top { -top < x } else { false }
+}
+
+// The order number raised by 2^31, so that it is never negative; 0 for a NaN.
+pub fn order_number(x: f32) -> u32
+    ensures { λ r. ⌜ r ≡ orderKey x ⌝ }
+{
+    if x != x {
+        return 0;
+    }
+    let bits = f32::to_bits(x);
+    if bits < 0x8000_0000 {
+        0x8000_0000 + bits
+    } else {
+        0xFFFF_FFFF - bits + 1
+    }
+}
+
+// The single nearest to a magnitude of 65536ths, ties to even: the leading zeros give the exponent.
+fn nearest_bits(magnitude: u32) -> u32 {
+    if magnitude == 0 {
+        return 0;
+    }
+    let zeros = u32::leading_zeros(magnitude);
+    let exponent = 142 - zeros;
+    if 8 <= zeros {
+        let significand = magnitude << (zeros - 8);
+        return exponent * 0x80_0000 + (significand - 0x80_0000);
+    }
+    let dropped = 8 - zeros;
+    let significand = magnitude >> dropped;
+    let rest = magnitude % (1 << dropped);
+    let half = 1 << (dropped - 1);
+    let bits = exponent * 0x80_0000 + (significand - 0x80_0000);
+    if rest < half {
+        return bits;
+    }
+    if rest == half {
+        return bits + significand % 2;
+    }
+    bits + 1
+}
+
+// The single nearest to n/65536, where n is the two's complement of 32 bits.
+pub fn fixed_to_single(n: u32) -> f32
+    ensures { λ r. ⌜ r ≡ fixedToSingle n ⌝ }
+{
+    if n < 0x8000_0000 {
+        f32::from_bits(nearest_bits(n))
+    } else {
+        f32::from_bits(0x8000_0000 + nearest_bits(0xFFFF_FFFF - n + 1))
+    }
+}
+
+// The magnitude of x without its fraction, held to 2^32 - 1; 0 for a NaN.
+pub fn truncate(x: f32) -> u32
+    ensures { λ r. ⌜ r ≡ wholeOf x ⌝ }
+{
+    if x != x {
+        return 0;
+    }
+    let bits = f32::to_bits(x) % 0x8000_0000;
+    let exponent = bits / 0x80_0000;
+    let significand = 0x80_0000 + bits % 0x80_0000;
+    if exponent < 127 {
+        return 0;
+    }
+    if exponent < 150 {
+        return significand >> (150 - exponent);
+    }
+    if exponent < 159 {
+        return significand << (exponent - 150);
+    }
+    0xFFFF_FFFF
+}
