@@ -1,0 +1,14 @@
+-- The first of some numbered things that has a property, and the least value among them.
+use Prim.Native.Nat.{ℕ, zero, suc, min}
+use mathlib.Core.Bool.{Bool, cond}
+use lib.Dec.{ltb}
+
+-- the first i below n that p holds of, or n where there is none
+unfoldable pub first : (ℕ → Bool) → ℕ → ℕ
+first p zero = zero
+first p (suc n) = cond (ltb (first p n) n) (first p n) (cond (p n) n (suc n))
+
+-- the least of top and f i for the i below n
+unfoldable pub leastBelow : ℕ → (ℕ → ℕ) → ℕ → ℕ
+leastBelow top f zero = top
+leastBelow top f (suc n) = min (leastBelow top f n) (f n)

@@ -1,0 +1,66 @@
+-- Section 2: big-endian fields, the table directory, and table lookup, from OpenType's "Organization of an OpenType Font".
+use Prim.Native.Nat.{ℕ, _+_, _*_}
+use mathlib.Core.Bool.{Bool, true, false, _&&_, _||_, cond}
+use mathlib.Core.List.{List, []}
+use lib.ListN.{length, getD, take, drop}
+use lib.Dec.{leb, ltb, eqb}
+use Rattle.font.specs.declared.tables.Table.{Table}
+use Rattle.font.specs.declared.tables.Table.the-variants.{Absent, Found}
+use Rattle.font.specs.First.{first}
+
+-- "All fields are big-endian." A field that does not lie whole in the bytes reads as 0; nothing below reads such a one without a test.
+unfoldable pub u16At : List ℕ → ℕ → ℕ
+u16At s at = cond (leb (at + 2) (length s)) (getD s at 0 * 256 + getD s (at + 1) 0) 0
+
+unfoldable pub u32At : List ℕ → ℕ → ℕ
+u32At s at =
+    cond (leb (at + 4) (length s))
+    ((getD s at 0 * 256 + getD s (at + 1) 0) * 65536 + (getD s (at + 2) 0 * 256 + getD s (at + 3) 0))
+    0
+
+-- "A font starts with hexadecimal 00010000, `OTTO` or `true`"
+unfoldable pub startsAsFont : ℕ → Bool
+startsAsFont v = eqb v 0x00010000 || (eqb v 0x4F54544F || eqb v 0x74727565)
+
+-- "a 16-bit table count, 6 more bytes, then 16-byte records: tag, checksum, offset, length."
+unfoldable pub recordCount : List ℕ → ℕ
+recordCount font = u16At font 4
+
+unfoldable pub recordTag : List ℕ → ℕ → ℕ
+recordTag font i = u32At font (12 + 16 * i)
+
+unfoldable pub recordOffset : List ℕ → ℕ → ℕ
+recordOffset font i = u32At font (20 + 16 * i)
+
+unfoldable pub recordLength : List ℕ → ℕ → ℕ
+recordLength font i = u32At font (24 + 16 * i)
+
+-- refusal 21 is "bad start or directory past file"; the header of 12 bytes is part of the directory
+unfoldable pub directoryFits : List ℕ → Bool
+directoryFits font =
+    leb 12 (length font) && (startsAsFont (u32At font 0) && leb (12 + 16 * recordCount font) (length font))
+
+-- "The first record with a tag counts." The count of records stands for none.
+unfoldable pub firstRecord : List ℕ → ℕ → ℕ
+firstRecord font tag = first (λ i. eqb (recordTag font i) tag) (recordCount font)
+
+-- "A table reaching past the file, or shorter than needed, is absent."
+unfoldable pub tableOfRecord : List ℕ → ℕ → ℕ → Table
+tableOfRecord font least i =
+    cond (leb least (recordLength font i) && leb (recordOffset font i + recordLength font i) (length font))
+    (Found (recordOffset font i) (recordLength font i))
+    Absent
+
+unfoldable pub findTable : List ℕ → ℕ → ℕ → Table
+findTable font tag least =
+    cond (directoryFits font && ltb (firstRecord font tag) (recordCount font))
+    (tableOfRecord font least (firstRecord font tag))
+    Absent
+
+-- "A found table is handed out as that part of the file and no other." An absent one is the empty part.
+unfoldable pub partOf : List ℕ → Table → List ℕ
+partOf font Absent = []
+partOf font (Found offset len) = take len (drop offset font)
+
+unfoldable pub tableData : List ℕ → ℕ → ℕ → List ℕ
+tableData font tag least = partOf font (findTable font tag least)

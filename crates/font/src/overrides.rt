@@ -1,0 +1,1 @@
+// Overrides of a face's attributes and axis defaults.
