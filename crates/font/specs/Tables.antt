@@ -13,10 +13,7 @@ unfoldable pub u16At : List ℕ → ℕ → ℕ
 u16At s at = cond (leb (at + 2) (length s)) (getD s at 0 * 256 + getD s (at + 1) 0) 0
 
 unfoldable pub u32At : List ℕ → ℕ → ℕ
-u32At s at =
-    cond (leb (at + 4) (length s))
-    ((getD s at 0 * 256 + getD s (at + 1) 0) * 65536 + (getD s (at + 2) 0 * 256 + getD s (at + 3) 0))
-    0
+u32At s at = cond (leb (at + 4) (length s)) (u16At s at * 65536 + u16At s (at + 2)) 0
 
 -- "A font starts with hexadecimal 00010000, `OTTO` or `true`"
 unfoldable pub startsAsFont : ℕ → Bool

@@ -1,6 +1,7 @@
 // The table directory of an OpenType font, and big-endian fields.
 ghost use mathlib.Core.Path.{_≡_};
-ghost use Rattle.font.specs.Tables.{u16At, u32At, directoryFits, firstRecord, findTable, tableData};
+ghost use Prim.Native.Nat.{_<_};
+ghost use Rattle.font.specs.Tables.{u16At, u32At, startsAsFont, directoryFits, firstRecord, tableOfRecord, findTable, tableData};
 
 // Where the first table with a tag lies.
 pub enum Table {
@@ -31,9 +32,19 @@ pub fn u32_at(s: &[u8], at: usize) -> u32
     if s.len() - 4 < at {
         return 0;
     }
-    let high = (s[at] as u32) * 256 + s[at + 1] as u32;
-    let low = (s[at + 2] as u32) * 256 + s[at + 3] as u32;
-    high * 65536 + low
+    (u16_at(s, at) as u32) * 65536 + u16_at(s, at + 2) as u32
+}
+
+fn starts_as_font(version: u32) -> bool
+    ensures { λ r. ⌜ r ≡ startsAsFont version ⌝ }
+{
+    if version == 0x0001_0000 {
+        return true;
+    }
+    if version == 0x4F54_544F {
+        return true;
+    }
+    version == 0x7472_7565
 }
 
 // Whether the font starts as one and its directory lies in the file.
@@ -43,9 +54,8 @@ pub fn directory_fits(font: &[u8]) -> bool
     if font.len() < 12 {
         return false;
     }
-    let version = u32_at(font, 0);
-    let count = u16_at(font, 4) as usize;
-    if version == 0x0001_0000 || version == 0x4F54_544F || version == 0x7472_7565 {
+    if starts_as_font(u32_at(font, 0)) {
+        let count = u16_at(font, 4) as usize;
         12 + 16 * count <= font.len()
     } else {
         false
@@ -67,23 +77,33 @@ fn first_record(font: &[u8], tag: u32) -> usize
     count
 }
 
+// The table of a record, if it lies in the file and has at least `least` bytes.
+fn table_of_record(font: &[u8], least: usize, i: usize) -> Table
+    requires { ⌜ i < 65536 ⌝ }
+    ensures { λ r. ⌜ r ≡ tableOfRecord (now (font .entry)) least i ⌝ }
+{
+    let offset = u32_at(font, 20 + 16 * i) as usize;
+    let length = u32_at(font, 24 + 16 * i) as usize;
+    if length < least {
+        return Table::Absent;
+    }
+    if font.len() < offset + length {
+        return Table::Absent;
+    }
+    Table::Found { offset, length }
+}
+
 // The first table with the tag, if it lies in the file and has at least `least` bytes.
 pub fn find_table(font: &[u8], tag: u32, least: usize) -> Table
     ensures { λ r. ⌜ r ≡ findTable (now (font .entry)) tag least ⌝ }
 {
-    if !directory_fits(font) {
-        return Table::Absent;
+    if directory_fits(font) {
+        let i = first_record(font, tag);
+        if i < u16_at(font, 4) as usize {
+            return table_of_record(font, least, i);
+        }
     }
-    let record = first_record(font, tag);
-    if record == u16_at(font, 4) as usize {
-        return Table::Absent;
-    }
-    let offset = u32_at(font, 20 + 16 * record) as usize;
-    let length = u32_at(font, 24 + 16 * record) as usize;
-    if length < least || font.len() < offset + length {
-        return Table::Absent;
-    }
-    Table::Found { offset, length }
+    Table::Absent
 }
 
 // The found table as that part of the file and no other; an absent one is the empty part.

@@ -1,0 +1,60 @@
+-- Laws of `first`: it is at most the number of things, what it finds has the property, and nothing before it has.
+use Prim.Native.Nat.{ℕ, zero, suc, _+_, _≤_, _<_}
+use mathlib.Core.Path.{_≡_, refl, sym, _∙_, ap}
+use mathlib.Core.Bool.{Bool, true, false, cond}
+use native.Mathlib.Omega.{arith}
+use native.Mathlib.Numerals.{add-one}
+use lib.Dec.{ltb}
+use borrow.Author.Tests.{lt-ltb, le-ltb, ltb-true, ltb-false}
+use Rattle.font.specs.First.{first}
+
+-- ---- for a loop that looks for it
+
+-- none among the first 0
+pub none-start : (p : ℕ → Bool) → first p 0 ≡ 0
+unfolding first
+none-start p = refl
+
+pub none-more : (p : ℕ → Bool) (i : ℕ) → first p i ≡ i → p i ≡ false → first p (i + 1) ≡ i + 1
+unfolding first
+none-more p i h e = rw (add-one i) (simp (h, le-ltb i i (omega arith), e))
+
+-- one step of `found`: i is below n, or is n
+found-step : (p : ℕ → Bool) (i n : ℕ) → (i < n → i ≡ first p n) → first p i ≡ i → p i ≡ true → i < suc n → i ≡ first p (suc n)
+unfolding first
+found-step p i n back h e l = go (ltb i n) refl
+  where
+    go : (b : Bool) → ltb i n ≡ b → i ≡ first p (suc n)
+    go true t = let r : first p n ≡ i = sym (back (ltb-true i n t)) in simp (r, t)
+    go false t =
+        let same : n ≡ i = omega (arith, ltb-false i n t) in
+        rw same (simp (h, le-ltb i i (omega arith), e))
+
+-- the first that was met is the first of all n
+pub found : (p : ℕ → Bool) (i n : ℕ) → first p i ≡ i → p i ≡ true → i < n → i ≡ first p n
+found p i zero h e l = let z : i < 0 = l in omega arith
+found p i (suc n) h e l = found-step p i n (found p i n h e) h e l
+
+-- ---- what it is
+
+pub at-most : (p : ℕ → Bool) (n : ℕ) → first p n ≤ n
+unfolding first
+at-most p zero = omega arith
+at-most p (suc n) = go (ltb (first p n) n) (p n) refl
+  where
+    go : (b q : Bool) → ltb (first p n) n ≡ b → cond b (first p n) (cond q n (suc n)) ≤ suc n
+    go true q t = omega (arith, ltb-true (first p n) n t)
+    go false true t = omega arith
+    go false false t = omega arith
+
+pub holds : (p : ℕ → Bool) (n : ℕ) → first p n < n → p (first p n) ≡ true
+unfolding first
+holds p zero l = absurd (let z : first p 0 < 0 = l in omega arith)
+holds p (suc n) l = go (ltb (first p n) n) (p n) refl refl (holds p n) l
+  where
+    go : (b q : Bool) → ltb (first p n) n ≡ b → p n ≡ q → (first p n < n → p (first p n) ≡ true)
+        → cond b (first p n) (cond q n (suc n)) < suc n
+        → p (cond b (first p n) (cond q n (suc n))) ≡ true
+    go true q t e back l = back (ltb-true (first p n) n t)
+    go false true t e back l = e
+    go false false t e back l = absurd (omega arith)
