@@ -3,3 +3,4 @@ pub mod First
 pub mod Single
 pub mod Attributes
 pub mod Tables
+pub mod Charmap

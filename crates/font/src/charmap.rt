@@ -1,10 +1,125 @@
 // The charmap index: which `cmap` subtable maps characters to glyphs.
 ghost use mathlib.Core.Path.{_≡_};
+ghost use Prim.Native.Nat.{_+_, _*_, _≤_, _<_};
+ghost use lib.ListN.{length};
+ghost use Rattle.font.specs.Charmap.{classOf, recordClass, bestRecord, charmapIndex};
 use crate::tables;
 use crate::tables::Table;
 
+// The file offset of a subtable, and what its encoding asks of a lookup.
 pub struct CharmapIndex {
     pub subtable_offset: usize,
     pub is_symbol: bool,
     pub is_mac_roman: bool,
+}
+
+pub enum Charmap {
+    Missing,
+    Index(CharmapIndex),
+}
+
+// A record of `cmap` and its class.
+pub struct BestRecord {
+    pub class: u8,
+    pub i: usize,
+}
+
+// The class of an encoding record, 0 the best; 4 stands for none.
+fn class_of(platform: u16, encoding: u16) -> u8
+    ensures { λ r. ⌜ r ≡ classOf platform encoding ⌝ }
+{
+    if platform == 0 {
+        if encoding < 4 {
+            return 1;
+        }
+        if encoding == 4 {
+            return 0;
+        }
+        if encoding == 6 {
+            return 0;
+        }
+        return 4;
+    }
+    if platform == 1 {
+        if encoding == 0 {
+            return 3;
+        }
+        return 4;
+    }
+    if platform == 3 {
+        return windows_class(encoding);
+    }
+    4
+}
+
+fn windows_class(encoding: u16) -> u8
+    ensures { λ r. ⌜ r ≡ classOf 3 encoding ⌝ }
+{
+    if encoding == 10 {
+        return 0;
+    }
+    if encoding == 1 {
+        return 1;
+    }
+    if encoding == 0 {
+        return 2;
+    }
+    4
+}
+
+// The class of a record that lies in the table; 4 where its subtable's format does not.
+fn record_class(cmap: &[u8], i: usize) -> u8
+    requires { ⌜ 12 + 8 * i ≤ length (now cmap) ⌝ }
+    ensures { λ r. ⌜ r ≡ recordClass (now (cmap .entry)) i ⌝ }
+{
+    let at = 4 + 8 * i;
+    let offset = tables::u32_at(cmap, at + 4) as usize;
+    if cmap.len() < offset + 2 {
+        return 4;
+    }
+    class_of(tables::u16_at(cmap, at), tables::u16_at(cmap, at + 2))
+}
+
+// The first record of the best class.
+fn best_record(cmap: &[u8]) -> BestRecord
+    requires { ⌜ 4 ≤ length (now cmap) ⌝ }
+    ensures { λ r. ⌜ r ≡ bestRecord (now (cmap .entry)) ⌝ }
+{
+    let count = tables::u16_at(cmap, 2) as usize;
+    let whole = (cmap.len() - 4) / 8;
+    let mut best = BestRecord { class: 4, i: count };
+    let mut i: usize = 0;
+    while i < count {
+        if whole <= i {
+            return best;
+        }
+        let class = record_class(cmap, i);
+        if class < best.class {
+            best = BestRecord { class, i };
+        }
+        i += 1;
+    }
+    best
+}
+
+impl CharmapIndex {
+    pub fn new(font: &[u8]) -> Charmap
+        ensures { λ r. ⌜ r ≡ charmapIndex (now (font .entry)) ⌝ }
+    {
+        let Table::Found { offset, length } = tables::find_table(font, 0x636D_6170, 4) else {
+            return Charmap::Missing;
+        };
+        let cmap = &font[offset..offset + length];
+        let best = best_record(cmap);
+        if best.class == 4 {
+            return Charmap::Missing;
+        }
+        let i = best.i;
+        let subtable = tables::u32_at(cmap, 8 + 8 * i) as usize;
+        Charmap::Index(CharmapIndex {
+            subtable_offset: offset + subtable,
+            is_symbol: best.class == 2,
+            is_mac_roman: best.class == 3,
+        })
+    }
 }

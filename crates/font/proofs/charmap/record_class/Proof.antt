@@ -1,0 +1,64 @@
+-- `font::charmap::record_class` meets its contract: each answer is that of the tests that led to it.
+-- Assumes nothing.
+use mathlib.Core.Path.{sym}
+use native.Mathlib.Omega.{arith}
+use borrow.Author.Tests.{le-leb, lt-leb}
+use Rattle.font.specs.Charmap.{recordClass, qualifies, subtableOffset}
+use borrow.Author.Needs.{needs}
+use Rattle.font.proofs.charmap.record_class.Statement.{statement}
+use Rattle.font.proofs.charmap.record_class.Tie as tie
+
+mul-at : tie.Need-mul-at
+mul-at c = search needs
+
+add-at : tie.Need-add-at
+add-at c = search needs
+
+add-u32-at : tie.Need-add-u32-at
+add-u32-at c = search needs
+
+u32-at-requires : tie.Need-u32-at-requires
+u32-at-requires c κs = search needs
+
+cast-offset : tie.Need-cast-offset
+cast-offset c = search needs
+
+add-if1 : tie.Need-add-if1
+add-if1 c = search needs
+
+returns : tie.Need-returns
+unfolding recordClass qualifies subtableOffset
+returns c = ?
+
+u16-at-requires : tie.Need-u16-at-requires
+u16-at-requires c κs = search needs
+
+add-u16-at : tie.Need-add-u16-at
+add-u16-at c = search needs
+
+u16-at-requires-2 : tie.Need-u16-at-requires-2
+u16-at-requires-2 c κs = search needs
+
+class-of-requires : tie.Need-class-of-requires
+class-of-requires c κs = search needs
+
+returns-2 : tie.Need-returns-2
+unfolding recordClass qualifies subtableOffset
+returns-2 c = ?
+
+pub record-class-spec : {M : Type 1} → statement M
+record-class-spec =
+    tie.close
+    (tie.spec
+    mul-at
+    add-at
+    add-u32-at
+    u32-at-requires
+    cast-offset
+    add-if1
+    returns
+    u16-at-requires
+    add-u16-at
+    u16-at-requires-2
+    class-of-requires
+    returns-2)

@@ -1,0 +1,61 @@
+-- Section 2, `cmap`: the charmap index, from OpenType's "cmap - Character to Glyph Index Mapping Table".
+use Prim.Native.Nat.{ℕ, _+_, _*_}
+use mathlib.Core.Bool.{Bool, true, false, _&&_, _||_, cond}
+use mathlib.Core.List.{List}
+use lib.ListN.{length}
+use lib.Dec.{leb, ltb, eqb}
+use Rattle.font.specs.declared.tables.Table.{Table}
+use Rattle.font.specs.declared.tables.Table.the-variants.{Absent, Found}
+use Rattle.font.specs.declared.charmap.CharmapIndex.{CharmapIndex}
+use Rattle.font.specs.declared.charmap.BestRecord.{BestRecord}
+use Rattle.font.specs.declared.charmap.Charmap.{Charmap}
+use Rattle.font.specs.declared.charmap.Charmap.the-variants.{Missing, Index}
+use Rattle.font.specs.First.{first, leastBelow}
+use Rattle.font.specs.Tables.{u16At, u32At, findTable, partOf}
+
+-- "Best first: (3,10), (0,4) or (0,6); then (3,1) or (0,0) to (0,3); then (3,0), symbol; then (1,0), Mac Roman."
+-- The classes are numbered from 0 in that order. A pair in none of them has the class 4.
+unfoldable pub is : ℕ → ℕ → ℕ → ℕ → Bool
+is platform encoding p e = eqb platform p && eqb encoding e
+
+unfoldable pub classOf : ℕ → ℕ → ℕ
+classOf p e =
+    cond (is p e 3 10 || (is p e 0 4 || is p e 0 6)) 0
+    (cond (is p e 3 1 || (eqb p 0 && leb e 3)) 1
+    (cond (is p e 3 0) 2
+    (cond (is p e 1 0) 3
+    4)))
+
+-- "16-bit record count at 2, then 8-byte records of platform, encoding, 32-bit offset."
+unfoldable pub subtableOffset : List ℕ → ℕ → ℕ
+subtableOffset cmap i = u32At cmap (8 + 8 * i)
+
+-- "A record qualifies if it lies in the table and two bytes at its offset do too."
+unfoldable pub qualifies : List ℕ → ℕ → Bool
+qualifies cmap i = leb (12 + 8 * i) (length cmap) && leb (subtableOffset cmap i + 2) (length cmap)
+
+unfoldable pub recordClass : List ℕ → ℕ → ℕ
+recordClass cmap i = cond (qualifies cmap i) (classOf (u16At cmap (4 + 8 * i)) (u16At cmap (6 + 8 * i))) 4
+
+-- "Best first ..; within a class the first." Where no record qualifies the class is 4 and the record the count.
+unfoldable pub bestClass : List ℕ → ℕ
+bestClass cmap = leastBelow 4 (recordClass cmap) (u16At cmap 2)
+
+unfoldable pub bestRecord : List ℕ → BestRecord
+bestRecord cmap =
+    record { class = bestClass cmap; i = cond (ltb (bestClass cmap) 4) (first (λ k. eqb (recordClass cmap k) (bestClass cmap)) (u16At cmap 2)) (u16At cmap 2) }
+
+-- "The index is the file offset of that subtable and the two flags." The table lies at `offset` in the file.
+unfoldable pub indexOf : ℕ → List ℕ → BestRecord → Charmap
+indexOf offset cmap best =
+    cond (eqb (best .class) 4) Missing
+    (Index
+    (record { «subtable_offset» = offset + subtableOffset cmap (best .i); «is_symbol» = eqb (best .class) 2; «is_mac_roman» = eqb (best .class) 3 }))
+
+unfoldable pub indexIn : List ℕ → Table → Charmap
+indexIn font Absent = Missing
+indexIn font (Found offset len) = indexOf offset (partOf font (Found offset len)) (bestRecord (partOf font (Found offset len)))
+
+-- `cmap`, at least 4 bytes
+unfoldable pub charmapIndex : List ℕ → Charmap
+charmapIndex font = indexIn font (findTable font 0x636D6170 4)
