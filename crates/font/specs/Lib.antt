@@ -1,3 +1,4 @@
 -- What the contracts of `font` cite. Each definition is written from the scope's sections 1 to 3 and from OpenType.
 pub mod Single
+pub mod Nearest
 pub mod Attributes

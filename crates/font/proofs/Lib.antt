@@ -1,0 +1,4 @@
+-- Laws that the proofs of `font` share, and laws that tie its definitions to the document's words.
+pub mod Closest
+pub mod Units
+pub mod Nearest
