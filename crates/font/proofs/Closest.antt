@@ -3,15 +3,16 @@
 use mathlib.Core.Path.{_≡_, refl, sym, ap, _∙_, subst, subst₂}
 use mathlib.Core.Logic.{_⊎_, inl, inr, ⊎-elim}
 use mathlib.Core.Bool.{Bool, true, false, not}
-use Prim.Native.Nat.{ℕ, zero, suc, _+_, _-_, _*_, _/_, _%_, _^_, _≤_, _<_, compare, Ordering, Ordering·lt, Ordering·eq, Ordering·gt}
-use native.Mathlib.Nat.{suc-mul, add-mul, one-mul, add-zero, mul-comm, mul-assoc, mul-pos, mod-lt, div-add-mod', mul-le-mul-right, mul-lt-mul-of-pos-right, le-div-iff-mul-le, le-trans, le-of-eq, lt-of-lt-of-le}
+use Prim.Native.Nat.{ℕ, zero, suc, _+_, _-_, _*_, _/_, _%_, _^_, _≤_, _<_, zero-le, compare, Ordering, Ordering·lt, Ordering·eq, Ordering·gt}
+use native.Mathlib.Nat.{suc-mul, add-mul, one-mul, add-zero, mul-comm, mul-assoc, mul-pos, mod-lt, div-add-mod', mul-le-mul-right, mul-lt-mul-of-pos-right, le-div-iff-mul-le, le-trans, le-of-eq, lt-of-lt-of-le, lt-of-le-of-lt, div-div-eq-div-mul}
 use native.Mathlib.Omega.{arith}
 use lib.Dec.{T, ltb, ltb→lt, nltb→le, isLe, isEq, eqb, leb→le, nleb→lt, eqb→eq, eqb-refl}
 use lib.Arith.{lt-of-le-ne}
 use lib.Pow.{pow-add, pow-pos, pow-mono, shl-lt}
 use lib.Ieee.{size, nearest}
 use lib.Ieee.Digits.{back, size-reaches}
-use lib.Ieee.Nearest.{closest}
+use lib.Ieee.Fits.{nearest-le, kept-lt}
+use lib.Ieee.Nearest.{closest, nearest-ge}
 use lib.Ieee.Order.{drop, kept}
 use Rattle.font.specs.Nearest.{apart}
 
@@ -104,10 +105,28 @@ leading p n d P D K =
     (le-trans (le-of-eq (sym (pow-add 2 (p - 1) (drop p n d)))) (size-reaches (n / d) (p - 1 + drop p n d) (all-in-use (size (n / d)) p P K)))
 
 pub best : (p n d m j : ℕ) → 0 < p → 0 < d → m < 2 ^ p → Best n d (kept p n d) (drop p n d) (m * 2 ^ j)
-best p n d m j P D h = go (ltb j k) (ltb→lt j k) (nltb→le j k)
+best p n d m j P D h = go (ltb j (drop p n d)) (ltb→lt j (drop p n d)) (nltb→le j (drop p n d))
   where
-    k : ℕ
-    k = drop p n d
+    go : (b : Bool) → (T b → j < drop p n d) → (T (not b) → drop p n d ≤ j) → Best n d (kept p n d) (drop p n d) (m * 2 ^ j)
+    go true x y =
+        let k = drop p n d in
+        best-below n d (kept p n d) k (m * 2 ^ j) (2 ^ (p - 1) * 2 ^ k) D (best-multiple n d k (2 ^ (p - 1)) D)
+        (lt-of-lt-of-le (shl-lt p j h) (le-trans (pow-mono (more p j k P (x tt))) (le-of-eq (pow-add 2 (p - 1) k))))
+        (leading p n d P D (lt-of-le-of-lt zero-le (x tt)))
+    go false x y =
+        let k = drop p n d in
+        subst (λ (w : ℕ). Best n d (kept p n d) k w) (mul-assoc m (2 ^ (j - k)) (2 ^ k) ∙ ap (λ (z : ℕ). m * z) (sym (pow-add 2 (j - k) k) ∙ ap (λ (z : ℕ). 2 ^ z) (back j k (y tt))))
+        (best-multiple n d k (m * 2 ^ (j - k)) D)
 
-    go : (b : Bool) → (T b → j < k) → (T (not b) → k ≤ j) → Best n d (kept p n d) k (m * 2 ^ j)
-    go b x y = ?
+-- ---- the rounded number itself has p digits, or is the next power of two
+pub kept-ge : (p n d : ℕ) → 0 < p → 0 < d → 0 < drop p n d → 2 ^ (p - 1) ≤ kept p n d
+kept-ge p n d P D K =
+    let k = drop p n d in
+    let u = d * 2 ^ k in
+    le-trans (le-div-iff-mul-le (mul-pos D (pow-pos k)) .1 (le-trans (le-of-eq (shift (2 ^ (p - 1)) k d)) (leading p n d P D K))) (nearest-ge (n / u) (compare (n % u * 2) u))
+
+pub kept-le : (p n d : ℕ) → kept p n d ≤ 2 ^ p
+kept-le p n d =
+    let k = drop p n d in
+    let u = d * 2 ^ k in
+    le-trans (nearest-le (n / u) (compare (n % u * 2) u)) (subst (λ (x : ℕ). x < 2 ^ p) (div-div-eq-div-mul n d (2 ^ k)) (kept-lt p (n / d)))

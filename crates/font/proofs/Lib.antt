@@ -1,4 +1,5 @@
 -- Laws that the proofs of `font` share, and laws that tie its definitions to the document's words.
 pub mod Closest
 pub mod Units
+pub mod Fixed
 pub mod Nearest

@@ -1,0 +1,66 @@
+-- A magnitude of 65536ths, as a single: it is finite, and its bits are those that `nearest_bits` works out. Assumes nothing.
+use mathlib.Core.Path.{_≡_, refl, sym, ap, _∙_, subst}
+use mathlib.Core.Bool.{Bool, true, false, not, cond}
+use Prim.Native.Nat.{ℕ, suc, _+_, _-_, _*_, _/_, _%_, _^_, _≤_, _<_, compare, Ordering, Ordering·lt, Ordering·eq, Ordering·gt}
+use native.Mathlib.Nat.{le-trans, le-of-eq, lt-of-lt-of-le, lt-of-le-of-lt, suc-add, mul-comm, mul-assoc, mul-pos, mul-le-mul-right, mul-div-cancel, add-sub-of-le}
+use native.Mathlib.Omega.{arith}
+use lib.Dec.{T, lit<, lit≤}
+use lib.Pow.{pow-add, pow-pos, shl-lt}
+use lib.Count.{leadingZeros, leading-top}
+use lib.Ieee.{binary32, low, prec, size, nearest, round, toBits}
+use lib.Ieee.Nearest.{closest, closest-same}
+use lib.Ieee.Order.{drop, kept}
+use lib.Ieee.Scale.{grid, overflow}
+use Rattle.font.proofs.Closest.{Cmp, cmp}
+use Rattle.font.proofs.Units.{size-is, grid-le, round-bits}
+
+-- ---- no overflow
+pub in-range : (m : ℕ) → m < 2 ^ 32 → grid binary32 m 65536 < overflow binary32
+in-range m h = lt-of-le-of-lt (grid-le binary32 m 65536 141 (lit< tt) (shl-lt 32 149 h)) (lit< tt)
+
+-- ---- the digits that are dropped, from the leading zeros
+size-of : (m j : ℕ) → 2 ^ j ≤ m → m < 2 ^ suc j → size (m * 2 ^ 149 / 65536) ≡ suc (j + 133)
+size-of m j h l =
+    let e : m * 2 ^ 149 / 65536 ≡ m * 2 ^ 133 = ap (λ (x : ℕ). x / 65536) (sym (mul-assoc m (2 ^ 133) 65536)) ∙ mul-div-cancel (m * 2 ^ 133) {n = 65536} (lit< tt) in
+    ap size e
+    ∙ size-is (m * 2 ^ 133) (j + 133) (le-trans (le-of-eq (pow-add 2 j 133)) (mul-le-mul-right (2 ^ 133) h)) (subst (λ (x : ℕ). m * 2 ^ 133 < 2 ^ x) (suc-add j 133) (shl-lt (suc j) 133 l))
+
+drop-of : (m z j : ℕ) → z + suc j ≡ 32 → 2 ^ j ≤ m → m < 2 ^ suc j → drop 24 (m * 2 ^ 149) 65536 ≡ 141 - z
+drop-of m z j e h l = go (size (m * 2 ^ 149 / 65536)) (size-of m j h l)
+  where
+    go : (x : ℕ) → x ≡ suc (j + 133) → x - 24 ≡ 141 - z
+    go x y = omega arith
+
+-- ---- the digits that are kept
+scaled : (m z : ℕ) → z ≤ 141 → m * 2 ^ 149 * 256 ≡ m * 2 ^ z * (65536 * 2 ^ (141 - z))
+scaled m z h =
+    let y = 2 ^ (141 - z) in
+    mul-assoc m (2 ^ 149) 256
+    ∙ sym (mul-assoc m (2 ^ 141) 65536)
+    ∙ ap (λ (x : ℕ). m * x * 65536) (sym (sym (pow-add 2 z (141 - z)) ∙ ap (λ (x : ℕ). 2 ^ x) (add-sub-of-le h)))
+    ∙ ap (λ (x : ℕ). x * 65536) (sym (mul-assoc m (2 ^ z) y))
+    ∙ mul-assoc (m * 2 ^ z) y 65536
+    ∙ ap (λ (x : ℕ). m * 2 ^ z * x) (mul-comm y 65536)
+
+kept-of : (m z : ℕ) → z ≤ 141 → drop 24 (m * 2 ^ 149) 65536 ≡ 141 - z → kept 24 (m * 2 ^ 149) 65536 ≡ closest (m * 2 ^ z) 256
+kept-of m z h e =
+    ap (λ (k : ℕ). closest (m * 2 ^ 149) (65536 * 2 ^ k)) e
+    ∙ closest-same (m * 2 ^ 149) (65536 * 2 ^ (141 - z)) (m * 2 ^ z) 256 (mul-pos (lit< tt) (pow-pos (141 - z))) (lit< tt) (scaled m z h)
+
+-- the last 8 digits decide: 1 is added where they are more than a half, or a half after an odd number
+pub rounded : (d : ℕ) → closest d 256 ≡ d / 256 + (d % 256 + 127 + d / 256 % 2) / 256
+rounded d = go (compare (d % 256 * 2) 256) (cmp (d % 256 * 2) 256)
+  where
+    go : (o : Ordering) → Cmp o (d % 256 * 2) 256 → nearest (d / 256) o ≡ d / 256 + (d % 256 + 127 + d / 256 % 2) / 256
+    go Ordering·lt h = omega arith
+    go Ordering·eq h = omega arith
+    go Ordering·gt h = omega arith
+
+-- ---- the bits
+pub zeros-lt : (m : ℕ) → 0 < m → m < 2 ^ 32 → leadingZeros 32 m < 32
+zeros-lt m h l = let t = leading-top 32 m h l in omega (arith, t .1)
+
+-- what `nearest_bits` works out: digits are the magnitude's 32 digits from its highest on
+pub bits-of : (m : ℕ) → 0 < m → m < 2 ^ 32 → let z = leadingZeros 32 m in let d = m * 2 ^ z % 2 ^ 32 in
+    (141 - z) * 0x80_0000 + d / 256 + (d % 256 + 127 + d / 256 % 2) / 256 ≡ toBits binary32 (round binary32 false m 65536)
+bits-of m h l = ?
