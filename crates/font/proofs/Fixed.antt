@@ -2,17 +2,20 @@
 use mathlib.Core.Path.{_≡_, refl, sym, ap, _∙_, subst}
 use mathlib.Core.Bool.{Bool, true, false, not, cond}
 use Prim.Native.Nat.{ℕ, suc, _+_, _-_, _*_, _/_, _%_, _^_, _≤_, _<_, compare, Ordering, Ordering·lt, Ordering·eq, Ordering·gt}
-use native.Mathlib.Nat.{le-trans, le-of-eq, lt-of-lt-of-le, lt-of-le-of-lt, suc-add, mul-comm, mul-assoc, mul-pos, mul-le-mul-right, mul-div-cancel, add-sub-of-le}
+use native.Mathlib.Nat.{le-trans, le-of-eq, lt-of-lt-of-le, lt-of-le-of-lt, suc-add, zero-add, mul-comm, mul-assoc, mul-pos, mul-le-mul-right, mul-div-cancel, add-sub-of-le}
 use native.Mathlib.Omega.{arith}
 use lib.Dec.{T, lit<, lit≤}
-use lib.Pow.{pow-add, pow-pos, shl-lt}
+use lib.Pow.{pow-add, pow-pos, shl-lt, shl-exact}
 use lib.Count.{leadingZeros, leading-top}
-use lib.Ieee.{binary32, low, prec, size, nearest, round, toBits}
+use lib.Ieee.{Float, nan, inf, fin, binary32, size, nearest, round, isNan, nanBits, ofBits, toBits}
+use lib.Ieee.Bits.{ofBits-toBits, nanBits-is}
+use lib.Ieee.Exact.{HasValue}
+use lib.Ieee.Fits.{round-fits}
 use lib.Ieee.Nearest.{closest, closest-same}
 use lib.Ieee.Order.{drop, kept}
-use lib.Ieee.Scale.{grid, overflow}
+use lib.Ieee.Scale.{grid, overflow, finite}
 use Rattle.font.proofs.Closest.{Cmp, cmp}
-use Rattle.font.proofs.Units.{size-is, grid-le, round-bits}
+use Rattle.font.proofs.Units.{size-is, grid-le, round-value, round-bits}
 
 -- ---- no overflow
 pub in-range : (m : ℕ) → m < 2 ^ 32 → grid binary32 m 65536 < overflow binary32
@@ -60,7 +63,52 @@ rounded d = go (compare (d % 256 * 2) 256) (cmp (d % 256 * 2) 256)
 pub zeros-lt : (m : ℕ) → 0 < m → m < 2 ^ 32 → leadingZeros 32 m < 32
 zeros-lt m h l = let t = leading-top 32 m h l in omega (arith, t .1)
 
--- what `nearest_bits` works out: digits are the magnitude's 32 digits from its highest on
+put-together : (b k q z v t : ℕ) → b ≡ 0 + (k * 0x80_0000 + q) → k ≡ 141 - z → q ≡ v + t → (141 - z) * 0x80_0000 + v + t ≡ b
+put-together b k q z v t e f g = omega arith
+
+-- what `nearest_bits` works out, from the magnitude's 32 digits from its highest on
 pub bits-of : (m : ℕ) → 0 < m → m < 2 ^ 32 → let z = leadingZeros 32 m in let d = m * 2 ^ z % 2 ^ 32 in
     (141 - z) * 0x80_0000 + d / 256 + (d % 256 + 127 + d / 256 % 2) / 256 ≡ toBits binary32 (round binary32 false m 65536)
-bits-of m h l = ?
+bits-of m h l =
+    let z = leadingZeros 32 m in
+    let t = leading-top 32 m h l in
+    let e : z + suc (t .0) ≡ 32 = t .1 in
+    let k = drop-of m z (t .0) e (t .2) (t .3) in
+    let x = m * 2 ^ z in
+    ap (λ (d : ℕ). (141 - z) * 0x80_0000 + d / 256 + (d % 256 + 127 + d / 256 % 2) / 256) (shl-exact (suc (t .0)) z 32 (t .3) (omega arith))
+    ∙ put-together (toBits binary32 (round binary32 false m 65536)) (drop 24 (m * 2 ^ 149) 65536) (kept 24 (m * 2 ^ 149) 65536) z (x / 256) ((x % 256 + 127 + x / 256 % 2) / 256)
+    (round-bits binary32 false m 65536 (lit< tt) (in-range m l))
+    k
+    (kept-of m z (omega arith) k ∙ rounded x)
+
+pub bits-of-zero : 0 ≡ toBits binary32 (round binary32 false 0 65536)
+unfolding toBits round
+bits-of-zero = refl
+
+-- ---- the sign's bit
+pub signed : (s : Bool) (m : ℕ) → m < 2 ^ 32 → cond s (2 ^ 31) 0 + toBits binary32 (round binary32 false m 65536) ≡ toBits binary32 (round binary32 s m 65536)
+signed s m h =
+    ap (λ (x : ℕ). cond s (2 ^ 31) 0 + x) (round-bits binary32 false m 65536 (lit< tt) (in-range m h) ∙ zero-add _)
+    ∙ sym (round-bits binary32 s m 65536 (lit< tt) (in-range m h))
+
+pub read-back : (s : Bool) (m : ℕ) → ofBits binary32 (toBits binary32 (round binary32 s m 65536)) ≡ round binary32 s m 65536
+read-back s m = ofBits-toBits binary32 (round binary32 s m 65536) (round-fits binary32 s m 65536)
+
+pub value-finite : (x : Float) (s : Bool) (a c : ℕ) → HasValue x s a c → T (finite x)
+value-finite nan s a c h = absurd h
+value-finite (inf t) s a c h = absurd h
+value-finite (fin t m e) s a c h = tt
+
+finite-no-nan : (x : Float) → T (finite x) → T (not (isNan x))
+unfolding isNan
+finite-no-nan nan t = absurd t
+finite-no-nan (inf s) t = absurd t
+finite-no-nan (fin s m e) t = tt
+
+pub is-number : (s : Bool) (m : ℕ) → m < 2 ^ 32 → T (finite (round binary32 s m 65536))
+is-number s m h = value-finite (round binary32 s m 65536) s (grid binary32 m 65536) (2 ^ 149) (round-value binary32 s m 65536 (in-range m h))
+
+pub no-nan : (s : Bool) (m : ℕ) → m < 2 ^ 32 → T (not (nanBits binary32 (toBits binary32 (round binary32 s m 65536))))
+no-nan s m h =
+    subst (λ (b : Bool). T (not b)) (sym (nanBits-is binary32 (toBits binary32 (round binary32 s m 65536)) ∙ ap isNan (read-back s m)))
+    (finite-no-nan (round binary32 s m 65536) (is-number s m h))
