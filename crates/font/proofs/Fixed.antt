@@ -4,7 +4,8 @@ use mathlib.Core.Bool.{Bool, true, false, not, cond}
 use Prim.Native.Nat.{ℕ, suc, _+_, _-_, _*_, _/_, _%_, _^_, _≤_, _<_, compare, Ordering, Ordering·lt, Ordering·eq, Ordering·gt}
 use native.Mathlib.Nat.{le-trans, le-of-eq, lt-of-lt-of-le, lt-of-le-of-lt, suc-add, zero-add, mul-comm, mul-assoc, mul-pos, mul-le-mul-right, mul-div-cancel, add-sub-of-le}
 use native.Mathlib.Omega.{arith}
-use lib.Dec.{T, lit<, lit≤}
+use borrow.Author.Tests.{lt-ltb, le-ltb}
+use lib.Dec.{T, lit<}
 use lib.Pow.{pow-add, pow-pos, shl-lt, shl-exact}
 use lib.Count.{leadingZeros, leading-top}
 use lib.Ieee.{Float, nan, inf, fin, binary32, size, nearest, round, isNan, nanBits, ofBits, toBits}
@@ -14,6 +15,7 @@ use lib.Ieee.Fits.{round-fits}
 use lib.Ieee.Nearest.{closest, closest-same}
 use lib.Ieee.Order.{drop, kept}
 use lib.Ieee.Scale.{grid, overflow, finite}
+use Rattle.font.specs.Single.{fixedToSingle}
 use Rattle.font.proofs.Closest.{Cmp, cmp}
 use Rattle.font.proofs.Units.{size-is, grid-le, round-value, round-bits}
 
@@ -112,3 +114,12 @@ pub no-nan : (s : Bool) (m : ℕ) → m < 2 ^ 32 → T (not (nanBits binary32 (t
 no-nan s m h =
     subst (λ (b : Bool). T (not b)) (sym (nanBits-is binary32 (toBits binary32 (round binary32 s m 65536)) ∙ ap isNan (read-back s m)))
     (finite-no-nan (round binary32 s m 65536) (is-number s m h))
+
+-- ---- either sign of the two's complement
+pub fixed-positive : (n : ℕ) → n < 2 ^ 31 → fixedToSingle n ≡ round binary32 false n 65536
+unfolding fixedToSingle
+fixed-positive n h = simp (lt-ltb n (2 ^ 31) h)
+
+pub fixed-negative : (n : ℕ) → 2 ^ 31 ≤ n → fixedToSingle n ≡ round binary32 true (2 ^ 32 - n) 65536
+unfolding fixedToSingle
+fixed-negative n h = simp (le-ltb n (2 ^ 31) h)
