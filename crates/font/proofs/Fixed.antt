@@ -2,7 +2,7 @@
 use mathlib.Core.Path.{_≡_, refl, sym, ap, _∙_, subst}
 use mathlib.Core.Bool.{Bool, true, false, not, cond}
 use Prim.Native.Nat.{ℕ, suc, _+_, _-_, _*_, _/_, _%_, _^_, _≤_, _<_, compare, Ordering, Ordering·lt, Ordering·eq, Ordering·gt}
-use native.Mathlib.Nat.{le-trans, le-of-eq, lt-of-lt-of-le, lt-of-le-of-lt, suc-add, zero-add, mul-comm, mul-assoc, mul-pos, mul-le-mul-right, mul-div-cancel, add-sub-of-le}
+use native.Mathlib.Nat.{le-trans, le-of-eq, lt-of-le-of-lt, suc-add, zero-add, mul-comm, mul-assoc, mul-pos, mul-le-mul-right, mul-div-cancel, add-sub-of-le}
 use native.Mathlib.Omega.{arith}
 use borrow.Author.Tests.{lt-ltb, le-ltb}
 use lib.Dec.{T, lit<}
@@ -10,14 +10,13 @@ use lib.Pow.{pow-add, pow-pos, shl-lt, shl-exact}
 use lib.Count.{leadingZeros, leading-top}
 use lib.Ieee.{Float, nan, inf, fin, binary32, size, nearest, round, isNan, nanBits, ofBits, toBits}
 use lib.Ieee.Bits.{ofBits-toBits, nanBits-is}
-use lib.Ieee.Exact.{HasValue}
 use lib.Ieee.Fits.{round-fits}
 use lib.Ieee.Nearest.{closest, closest-same}
 use lib.Ieee.Order.{drop, kept}
 use lib.Ieee.Scale.{grid, overflow, finite}
 use Rattle.font.specs.Single.{fixedToSingle}
 use Rattle.font.proofs.Closest.{Cmp, cmp}
-use Rattle.font.proofs.Units.{size-is, grid-le, round-value, round-bits}
+use Rattle.font.proofs.Units.{size-is, value-finite, grid-le, round-value, round-bits}
 
 -- ---- no overflow
 pub in-range : (m : ℕ) → m < 2 ^ 32 → grid binary32 m 65536 < overflow binary32
@@ -53,7 +52,7 @@ kept-of m z h e =
     ∙ closest-same (m * 2 ^ 149) (65536 * 2 ^ (141 - z)) (m * 2 ^ z) 256 (mul-pos (lit< tt) (pow-pos (141 - z))) (lit< tt) (scaled m z h)
 
 -- the last 8 digits decide: 1 is added where they are more than a half, or a half after an odd number
-pub rounded : (d : ℕ) → closest d 256 ≡ d / 256 + (d % 256 + 127 + d / 256 % 2) / 256
+rounded : (d : ℕ) → closest d 256 ≡ d / 256 + (d % 256 + 127 + d / 256 % 2) / 256
 rounded d = go (compare (d % 256 * 2) 256) (cmp (d % 256 * 2) 256)
   where
     go : (o : Ordering) → Cmp o (d % 256 * 2) 256 → nearest (d / 256) o ≡ d / 256 + (d % 256 + 127 + d / 256 % 2) / 256
@@ -96,18 +95,13 @@ signed s m h =
 pub read-back : (s : Bool) (m : ℕ) → ofBits binary32 (toBits binary32 (round binary32 s m 65536)) ≡ round binary32 s m 65536
 read-back s m = ofBits-toBits binary32 (round binary32 s m 65536) (round-fits binary32 s m 65536)
 
-pub value-finite : (x : Float) (s : Bool) (a c : ℕ) → HasValue x s a c → T (finite x)
-value-finite nan s a c h = absurd h
-value-finite (inf t) s a c h = absurd h
-value-finite (fin t m e) s a c h = tt
-
 finite-no-nan : (x : Float) → T (finite x) → T (not (isNan x))
 unfolding isNan
 finite-no-nan nan t = absurd t
 finite-no-nan (inf s) t = absurd t
 finite-no-nan (fin s m e) t = tt
 
-pub is-number : (s : Bool) (m : ℕ) → m < 2 ^ 32 → T (finite (round binary32 s m 65536))
+is-number : (s : Bool) (m : ℕ) → m < 2 ^ 32 → T (finite (round binary32 s m 65536))
 is-number s m h = value-finite (round binary32 s m 65536) s (grid binary32 m 65536) (2 ^ 149) (round-value binary32 s m 65536 (in-range m h))
 
 pub no-nan : (s : Bool) (m : ℕ) → m < 2 ^ 32 → T (not (nanBits binary32 (toBits binary32 (round binary32 s m 65536))))

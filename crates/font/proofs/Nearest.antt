@@ -1,15 +1,15 @@
 -- "A signed 16.16 number n becomes the single nearest to n/65536, ties to even significand": `fixedToSingle` does so for every n of 32 bits (`fixed-nearest`).
 -- Distances are taken over into units of the format's smallest value, where `proofs/Closest.antt` has the law on whole numbers. Assumes nothing.
-use mathlib.Core.Path.{_≡_, refl, sym, ap, ap₂, _∙_, subst}
+use mathlib.Core.Path.{_≡_, refl, sym, ap, ap₂, _∙_}
 use mathlib.Core.Logic.{_⊎_, inl, inr, ⊎-elim}
 use mathlib.Core.Bool.{Bool, true, false, not, cond, Bool·beq}
-use Prim.Native.Nat.{ℕ, zero, suc, _+_, _-_, _*_, _%_, _^_, _≤_, _<_}
+use Prim.Native.Nat.{ℕ, _+_, _-_, _*_, _%_, _^_, _≤_, _<_}
 use native.Mathlib.Nat.{le-trans, le-of-eq, le-antisymm, mul-comm, mul-sub, add-mul, zero-mul, mul-right-comm, mul-le-mul-right, le-of-mul-le-mul-right, eq-of-mul-eq-mul-right}
 use native.Mathlib.Omega.{arith}
 use borrow.Author.Tests.{lt-leb, le-leb}
 use lib.Dec.{T, ltb, ltb→lt, nltb→le, lit<}
 use lib.Pow.{pow-pos}
-use lib.Ieee.{Float, nan, inf, fin, Format, binary32, prec, low, round, fits, ofBits, toBits}
+use lib.Ieee.{Float, nan, inf, fin, Format, binary32, prec, low, round, fits, ofBits}
 use lib.Ieee.Bits.{ofBits-toBits}
 use lib.Ieee.Exact.{HasValue}
 use lib.Ieee.Fits.{two, two-le-pos, round-fits}
@@ -17,10 +17,10 @@ use lib.Ieee.Order.{drop, kept, transfer}
 use lib.Ieee.Scale.{grid, overflow, finite}
 use lib.Ieee.Positive.{num, den, den-pos}
 use Rattle.font.specs.Single.{fixedToSingle}
-use Rattle.font.specs.Nearest.{negative, apart, gap, distance, Nearest, belowZero, magnitude, NearestFixed}
+use Rattle.font.specs.Nearest.{negative, apart, gap, distance, Nearest, NearestFixed}
 use Rattle.font.proofs.Closest.{Best, best}
-use Rattle.font.proofs.Units.{on-grid, bits-of-value, round-value, round-bits}
-use Rattle.font.proofs.Fixed.{in-range, value-finite, fixed-positive, fixed-negative}
+use Rattle.font.proofs.Units.{on-grid, value-finite, bits-of-value, round-value, round-bits}
+use Rattle.font.proofs.Fixed.{in-range, fixed-positive, fixed-negative}
 
 -- ---- distances
 sub-mul : (a b l : ℕ) → (a - b) * l ≡ a * l - b * l

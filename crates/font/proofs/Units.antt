@@ -2,15 +2,15 @@
 -- What `round` gives is `grid` units, and its bit pattern is `drop` times the weight of the exponent's field, and `kept`. Assumes nothing.
 use mathlib.Core.Path.{_≡_, refl, sym, ap, _∙_, subst}
 use mathlib.Core.Logic.{_⊎_, inl, inr, ⊎-elim}
-use mathlib.Core.Bool.{Bool, true, false, _&&_, cond}
+use mathlib.Core.Bool.{Bool, _&&_, cond}
 use Prim.Native.Nat.{ℕ, zero, suc, _+_, _-_, _*_, _/_, _%_, _^_, _≤_, _<_}
 use native.Mathlib.Nat.{le-refl, le-trans, le-of-eq, le-of-suc-le-suc, lt-of-lt-of-le, lt-of-not-le, not-le-of-lt, lt-irrefl, eq-or-lt-of-le, eq-zero-or-pos, le-antisymm, add-assoc, zero-mul, mul-one, mul-assoc, mul-le-mul, mul-le-mul-right, mul-div-cancel, pow-suc, pow-succ', suc-mul, div-lt-iff-lt-mul}
 use native.Mathlib.Omega.{arith}
 use lib.IntN.{ℤ, pos, negsuc}
 use lib.Dec.{T, ltb, leb, eqb, ltb→lt, leb→le}
 use lib.Pow.{pow-add, pow-pos, pow-mono, pow-lt, shl-lt}
-use lib.Ieee.{Float, nan, inf, fin, Format, prec, emax, low, up, down, size, units, round, fits, hid, top, toBits}
-use lib.Ieee.Digits.{back, size-lt, size-le, size-reaches}
+use lib.Ieee.{Float, nan, inf, fin, Format, prec, emax, low, up, down, size, round, fits, hid, top, toBits}
+use lib.Ieee.Digits.{back, size-lt, size-le}
 use lib.Ieee.Fits.{two, two-le-pos, round-is, down-pos, and-l, and-r}
 use lib.Ieee.Exact.{HasValue, units-val}
 use lib.Ieee.Order.{drop, kept}
@@ -28,8 +28,8 @@ in-units l m (negsuc a) h =
     let j = l - suc a in (
       j,
       ap (λ (x : ℕ). x * 2 ^ l) (mul-one m)
-      ∙ ap (λ (x : ℕ). m * x) (ap (λ (x : ℕ). 2 ^ x) (sym (back l (suc a) (pow-le-back (suc a) l h))) ∙ pow-add 2 j (suc a))
-      ∙ sym (mul-assoc m (2 ^ j) (2 ^ suc a)),
+          ∙ ap (λ (x : ℕ). m * x) (ap (λ (x : ℕ). 2 ^ x) (sym (back l (suc a) (pow-le-back (suc a) l h))) ∙ pow-add 2 j (suc a))
+          ∙ sym (mul-assoc m (2 ^ j) (2 ^ suc a)),
     )
 
 -- y is m * 2 ^ j units, and m has no more digits than the format keeps
@@ -50,6 +50,12 @@ on-grid f (fin s (suc m) e) h t =
     let abc = and-l (a && b && c) d h in
     let u = in-units (low f) (suc m) e (leb→le (down e) (2 ^ low f) (and-r (a && b) c abc)) in
     (suc m, u .0, ltb→lt (suc m) (2 ^ prec f) (and-r a b (and-l (a && b) c abc)), u .1)
+
+-- a value with a size in units is finite
+pub value-finite : (x : Float) (s : Bool) (a c : ℕ) → HasValue x s a c → T (finite x)
+value-finite nan s a c h = absurd h
+value-finite (inf t) s a c h = absurd h
+value-finite (fin t m e) s a c h = tt
 
 -- ---- a number of units as a bit pattern of p digits, without its sign
 abbrev pattern : ℕ → ℕ → ℕ
