@@ -2,7 +2,9 @@
 use Prim.Native.Nat.{ℕ, zero, suc, _+_, _≤_, _<_}
 use mathlib.Core.Path.{_≡_, refl, sym, _∙_, ap}
 use mathlib.Core.Bool.{Bool, true, false, cond}
+use mathlib.Core.Logic.{_⊎_, inl, inr}
 use native.Mathlib.Omega.{arith}
+use native.Mathlib.Decide.{le-ind}
 use native.Mathlib.Numerals.{add-one}
 use lib.Dec.{ltb}
 use borrow.Author.Tests.{lt-ltb, le-ltb, ltb-true, ltb-false}
@@ -58,3 +60,26 @@ holds p (suc n) l = go (ltb (first p n) n) (p n) refl refl (holds p n) l
     go true q t e back l = back (ltb-true (first p n) n t)
     go false true t e back l = e
     go false false t e back l = absurd (omega arith)
+
+-- ---- for a loop that goes on after it has found one
+
+-- below n + 1 is below n, or n
+pub below-or-last : (k n : ℕ) → k < suc n → (k < n) ⊎ (k ≡ n)
+below-or-last k n l = go (ltb k n) refl
+  where
+    go : (b : Bool) → ltb k n ≡ b → (k < n) ⊎ (k ≡ n)
+    go true t = inl (ltb-true k n t)
+    go false t = inr (omega (arith, ltb-false k n t))
+
+-- none has the property
+pub none : (p : ℕ → Bool) (n : ℕ) → ((k : ℕ) → k < n → p k ≡ false) → first p n ≡ n
+none p zero h = none-start p
+none p (suc n) h = rw (← add-one n) (none-more p n (none p n (λ k l. h k (omega arith))) (h n (omega arith)))
+
+-- what was found stays the first as more things come
+keep-step : (p : ℕ → Bool) (n : ℕ) → first p n < n → first p (suc n) ≡ first p n
+unfolding first
+keep-step p n h = simp (lt-ltb (first p n) n h)
+
+pub keep : (p : ℕ → Bool) (m n : ℕ) → m ≤ n → first p m < m → first p n ≡ first p m
+keep p m n l h = le-ind (λ k. first p k ≡ first p m) refl (λ k g e. keep-step p k (omega arith) ∙ e) n l

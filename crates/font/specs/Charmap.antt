@@ -7,10 +7,9 @@ use lib.Dec.{leb, ltb, eqb}
 use Rattle.font.specs.declared.tables.Table.{Table}
 use Rattle.font.specs.declared.tables.Table.the-variants.{Absent, Found}
 use Rattle.font.specs.declared.charmap.CharmapIndex.{CharmapIndex}
-use Rattle.font.specs.declared.charmap.BestRecord.{BestRecord}
 use Rattle.font.specs.declared.charmap.Charmap.{Charmap}
 use Rattle.font.specs.declared.charmap.Charmap.the-variants.{Missing, Index}
-use Rattle.font.specs.First.{first, leastBelow}
+use Rattle.font.specs.First.{leastBelow, firstLeast}
 use Rattle.font.specs.Tables.{u16At, u32At, findTable, partOf}
 
 -- "Best first: (3,10), (0,4) or (0,6); then (3,1) or (0,0) to (0,3); then (3,0), symbol; then (1,0), Mac Roman."
@@ -37,24 +36,28 @@ qualifies cmap i = leb (12 + 8 * i) (length cmap) && leb (subtableOffset cmap i 
 unfoldable pub recordClass : List ℕ → ℕ → ℕ
 recordClass cmap i = cond (qualifies cmap i) (classOf (u16At cmap (4 + 8 * i)) (u16At cmap (6 + 8 * i))) 4
 
--- "Best first ..; within a class the first." Where no record qualifies the class is 4 and the record the count.
+-- "Best first ..; within a class the first." Where no record qualifies the class is 4.
 unfoldable pub bestClass : List ℕ → ℕ
 bestClass cmap = leastBelow 4 (recordClass cmap) (u16At cmap 2)
 
-unfoldable pub bestRecord : List ℕ → BestRecord
-bestRecord cmap =
-    record { class = bestClass cmap; i = cond (ltb (bestClass cmap) 4) (first (λ k. eqb (recordClass cmap k) (bestClass cmap)) (u16At cmap 2)) (u16At cmap 2) }
+unfoldable pub bestRecord : List ℕ → ℕ
+bestRecord cmap = firstLeast 4 (recordClass cmap) (u16At cmap 2)
 
 -- "The index is the file offset of that subtable and the two flags." The table lies at `offset` in the file.
-unfoldable pub indexOf : ℕ → List ℕ → BestRecord → Charmap
-indexOf offset cmap best =
-    cond (eqb (best .class) 4) Missing
+unfoldable pub indexOf : ℕ → List ℕ → Charmap
+indexOf offset cmap =
+    cond (ltb (bestClass cmap) 4)
     (Index
-    (record { «subtable_offset» = offset + subtableOffset cmap (best .i); «is_symbol» = eqb (best .class) 2; «is_mac_roman» = eqb (best .class) 3 }))
+    (record
+    { «subtable_offset» = offset + subtableOffset cmap (bestRecord cmap)
+    ; «is_symbol» = eqb (bestClass cmap) 2
+    ; «is_mac_roman» = eqb (bestClass cmap) 3
+    }))
+    Missing
 
 unfoldable pub indexIn : List ℕ → Table → Charmap
 indexIn font Absent = Missing
-indexIn font (Found offset len) = indexOf offset (partOf font (Found offset len)) (bestRecord (partOf font (Found offset len)))
+indexIn font (Found offset len) = indexOf offset (partOf font (Found offset len))
 
 -- `cmap`, at least 4 bytes
 unfoldable pub charmapIndex : List ℕ → Charmap

@@ -1,7 +1,7 @@
 -- The first of some numbered things that has a property, and the least value among them.
 use Prim.Native.Nat.{ℕ, zero, suc, min}
 use mathlib.Core.Bool.{Bool, cond}
-use lib.Dec.{ltb}
+use lib.Dec.{ltb, eqb}
 
 -- the first i below n that p holds of, or n where there is none
 unfoldable pub first : (ℕ → Bool) → ℕ → ℕ
@@ -12,3 +12,7 @@ first p (suc n) = cond (ltb (first p n) n) (first p n) (cond (p n) n (suc n))
 unfoldable pub leastBelow : ℕ → (ℕ → ℕ) → ℕ → ℕ
 leastBelow top f zero = top
 leastBelow top f (suc n) = min (leastBelow top f n) (f n)
+
+-- the first i below n that has the least value
+unfoldable pub firstLeast : ℕ → (ℕ → ℕ) → ℕ → ℕ
+firstLeast top f n = first (λ i. eqb (f i) (leastBelow top f n)) n

@@ -2,7 +2,7 @@
 ghost use mathlib.Core.Path.{_≡_};
 ghost use Prim.Native.Nat.{_+_, _*_, _≤_, _<_};
 ghost use lib.ListN.{length};
-ghost use Rattle.font.specs.Charmap.{classOf, recordClass, bestRecord, charmapIndex};
+ghost use Rattle.font.specs.Charmap.{classOf, recordClass, bestClass, bestRecord, charmapIndex};
 use crate::tables;
 use crate::tables::Table;
 
@@ -72,18 +72,17 @@ fn record_class(cmap: &[u8], i: usize) -> u8
     requires { ⌜ 12 + 8 * i ≤ length (now cmap) ⌝ }
     ensures { λ r. ⌜ r ≡ recordClass (now (cmap .entry)) i ⌝ }
 {
-    let at = 4 + 8 * i;
-    let offset = tables::u32_at(cmap, at + 4) as usize;
+    let offset = tables::u32_at(cmap, 8 + 8 * i) as usize;
     if cmap.len() < offset + 2 {
         return 4;
     }
-    class_of(tables::u16_at(cmap, at), tables::u16_at(cmap, at + 2))
+    class_of(tables::u16_at(cmap, 4 + 8 * i), tables::u16_at(cmap, 6 + 8 * i))
 }
 
 // The first record of the best class.
 fn best_record(cmap: &[u8]) -> BestRecord
     requires { ⌜ 4 ≤ length (now cmap) ⌝ }
-    ensures { λ r. ⌜ r ≡ bestRecord (now (cmap .entry)) ⌝ }
+    ensures { λ r. ⌜ (r .class ≡ bestClass (now (cmap .entry))) × (r .class < 4 → r .i ≡ bestRecord (now (cmap .entry))) ⌝ }
 {
     let count = tables::u16_at(cmap, 2) as usize;
     let whole = (cmap.len() - 4) / 8;
@@ -111,15 +110,14 @@ impl CharmapIndex {
         };
         let cmap = &font[offset..offset + length];
         let best = best_record(cmap);
-        if best.class == 4 {
-            return Charmap::Missing;
+        if best.class < 4 {
+            let subtable = tables::u32_at(cmap, 8 + 8 * best.i) as usize;
+            return Charmap::Index(CharmapIndex {
+                subtable_offset: offset + subtable,
+                is_symbol: best.class == 2,
+                is_mac_roman: best.class == 3,
+            });
         }
-        let i = best.i;
-        let subtable = tables::u32_at(cmap, 8 + 8 * i) as usize;
-        Charmap::Index(CharmapIndex {
-            subtable_offset: offset + subtable,
-            is_symbol: best.class == 2,
-            is_mac_roman: best.class == 3,
-        })
+        Charmap::Missing
     }
 }

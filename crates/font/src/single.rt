@@ -1,7 +1,8 @@
 // Single-precision numbers, worked out from their bits.
 ghost use mathlib.Core.Path.{_≡_};
+ghost use mathlib.Core.Bool.{false};
 ghost use lib.Ieee.Scale.{finite};
-ghost use lib.Ieee.{toUnsigned, toSigned};
+ghost use lib.Ieee.{toUnsigned, toSigned, toBits, round, binary32};
 ghost use Rattle.font.specs.Single.{orderKey, fixedToSingle, wholeOf};
 
 // The bits of positive infinity.
@@ -30,29 +31,21 @@ pub fn order_number(x: f32) -> u32
     }
 }
 
-// The single nearest to a magnitude of 65536ths, ties to even: the leading zeros give the exponent.
-fn nearest_bits(magnitude: u32) -> u32 {
+// The bits of the single nearest to a magnitude of 65536ths, ties to even.
+fn nearest_bits(magnitude: u32) -> u32
+    ensures { λ r. ⌜ r ≡ toBits binary32 (round binary32 false magnitude 65536) ⌝ }
+{
     if magnitude == 0 {
         return 0;
     }
+    // The magnitude's 32 digits from its highest on: 24 are kept, and 8 decide how these round.
     let zeros = u32::leading_zeros(magnitude);
-    let exponent = 142 - zeros;
-    if 8 <= zeros {
-        let significand = magnitude << (zeros - 8);
-        return exponent * 0x80_0000 + (significand - 0x80_0000);
-    }
-    let dropped = 8 - zeros;
-    let significand = magnitude >> dropped;
-    let rest = magnitude % (1 << dropped);
-    let half = 1 << (dropped - 1);
-    let bits = exponent * 0x80_0000 + (significand - 0x80_0000);
-    if rest < half {
-        return bits;
-    }
-    if rest == half {
-        return bits + significand % 2;
-    }
-    bits + 1
+    let digits = magnitude << zeros;
+    let significand = digits / 256;
+    // 1 where the 8 digits are more than a half, or a half after an odd significand.
+    let up = (digits % 256 + 127 + significand % 2) / 256;
+    // The significand's leading digit adds the last 1 to the exponent's field.
+    (141 - zeros) * 0x80_0000 + significand + up
 }
 
 // The single nearest to n/65536, where n is the two's complement of 32 bits.

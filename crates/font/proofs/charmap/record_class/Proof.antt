@@ -8,11 +8,8 @@ use borrow.Author.Needs.{needs}
 use Rattle.font.proofs.charmap.record_class.Statement.{statement}
 use Rattle.font.proofs.charmap.record_class.Tie as tie
 
-mul-at : tie.Need-mul-at
-mul-at c = search needs
-
-add-at : tie.Need-add-at
-add-at c = search needs
+mul-u32-at : tie.Need-mul-u32-at
+mul-u32-at c = search needs
 
 add-u32-at : tie.Need-add-u32-at
 add-u32-at c = search needs
@@ -28,13 +25,22 @@ add-if1 c = search needs
 
 returns : tie.Need-returns
 unfolding recordClass qualifies subtableOffset
-returns c = ?
+returns c = simp (sym (c .before .u32-at .ensures), lt-leb _ _ (c .if1 .taken), le-leb _ _ (c .before .before .before .pre))
+
+mul-u16-at : tie.Need-mul-u16-at
+mul-u16-at c = search needs
+
+add-u16-at : tie.Need-add-u16-at
+add-u16-at c = search needs
 
 u16-at-requires : tie.Need-u16-at-requires
 u16-at-requires c κs = search needs
 
-add-u16-at : tie.Need-add-u16-at
-add-u16-at c = search needs
+mul-u16-at-2 : tie.Need-mul-u16-at-2
+mul-u16-at-2 c = search needs
+
+add-u16-at-2 : tie.Need-add-u16-at-2
+add-u16-at-2 c = search needs
 
 u16-at-requires-2 : tie.Need-u16-at-requires-2
 u16-at-requires-2 c κs = search needs
@@ -44,21 +50,25 @@ class-of-requires c κs = search needs
 
 returns-2 : tie.Need-returns-2
 unfolding recordClass qualifies subtableOffset
-returns-2 c = ?
+returns-2 c = simp
+    (sym (c .before .before .before .before .u32-at .ensures), le-leb _ _ (c .before .before .before .if1 .left), le-leb _ _ (c .before .before .before .before .before .before .pre), sym (c .before .before .u16-at .ensures), sym (c .before .u16-at2 .ensures))
+    (c .class-of .ensures)
 
 pub record-class-spec : {M : Type 1} → statement M
 record-class-spec =
     tie.close
     (tie.spec
-    mul-at
-    add-at
+    mul-u32-at
     add-u32-at
     u32-at-requires
     cast-offset
     add-if1
     returns
-    u16-at-requires
+    mul-u16-at
     add-u16-at
+    u16-at-requires
+    mul-u16-at-2
+    add-u16-at-2
     u16-at-requires-2
     class-of-requires
     returns-2)
