@@ -2,3 +2,6 @@
 pub mod Nan
 pub mod Pattern
 pub mod Units
+pub mod Whole
+pub mod OrderKey
+pub mod Order

@@ -1,48 +1,53 @@
+-- `single::truncate` meets its contract: each return is a case of `Cut`, of `proofs/Whole.antt`. Assumes nothing.
+use mathlib.Core.Path.{_≡_, refl, sym, ap, _∙_, subst}
+use mathlib.Core.Bool.{false}
+use lib.Dec.{T}
+use lib.Ieee.{Float, nan, ne, binary32, fits, isNan, toBits}
+use lib.Ieee.Compare.{differs-from-itself}
 use borrow.Author.Needs.{needs}
+use Prim.Native.Nat.{ℕ, _%_, _^_}
+use Rattle.font.specs.Single.{wholeOf}
+use Rattle.font.proofs.Nan.{no-nan}
+use Rattle.font.proofs.Whole.{Cut, whole-cut}
 use Rattle.font.proofs.single.truncate.Statement.{statement}
 use Rattle.font.proofs.single.truncate.Tie as tie
-use Rattle.font.proofs.single.truncate.Reads as reads
-use Rattle.font.proofs.single.truncate.Lts as lts
 
--- src/single.rt:74:9
+cut : (c : tie.Start) → ne (c .args .x) (c .args .x) ≡ false → Cut (toBits binary32 (c .args .x) % 2 ^ 31) (wholeOf (c .args .x))
+cut c h = whole-cut (c .args .x) (no-nan (c .args .x) h) (subst T (sym (c .good .0 .1)) tt)
+
+of-nan : (x : Float) → T (ne x x) → 0 ≡ wholeOf x
+unfolding wholeOf
+of-nan x h = sym (ap wholeOf (differs-from-itself x h))
+
 returns : tie.Need-returns
-returns c = ?
+returns c = of-nan (c .before .args .x) (subst T (sym (c .if1 .taken)) tt)
 
--- src/single.rt:76:16
 float-to-bits-bits : tie.Need-float-to-bits-bits
-float-to-bits-bits c = ?
+float-to-bits-bits c = no-nan (c .before .args .x) (c .if1 .left)
 
--- src/single.rt:78:23
 add-significand : tie.Need-add-significand
 add-significand c = search needs
 
--- src/single.rt:80:9
 returns-2 : tie.Need-returns-2
-returns-2 c = ?
+returns-2 c = cut (c .before .before) (c .before .if1 .left) .none (c .if2 .taken)
 
--- src/single.rt:83:32
 sub-result : tie.Need-sub-result
 sub-result c = search needs
 
--- src/single.rt:83:16
 shr-result : tie.Need-shr-result
 shr-result c = search needs
 
--- src/single.rt:83:9
 returns-3 : tie.Need-returns-3
-returns-3 c = ?
+returns-3 c = cut (c .before .before .before) (c .before .before .if1 .left) .down (c .before .if2 .left) (c .if3 .taken)
 
--- src/single.rt:86:16
 shl-result : tie.Need-shl-result
 shl-result c = search needs
 
--- src/single.rt:86:9
 returns-4 : tie.Need-returns-4
-returns-4 c = ?
+returns-4 c = cut (c .before .before .before .before) (c .before .before .before .if1 .left) .up (c .before .if3 .left) (c .if4 .taken)
 
--- src/single.rt:70:1
 returns-5 : tie.Need-returns-5
-returns-5 c = ?
+returns-5 c = cut (c .before .before .before .before) (c .before .before .before .if1 .left) .past (c .if4 .left)
 
 pub truncate-spec : {M : Type 1} → statement M
 truncate-spec =
