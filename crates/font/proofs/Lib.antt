@@ -4,4 +4,5 @@ pub mod Pattern
 pub mod Units
 pub mod Whole
 pub mod OrderKey
+pub mod Compare
 pub mod Order
