@@ -3,6 +3,7 @@ pub mod Nan
 pub mod Pattern
 pub mod Units
 pub mod Whole
+pub mod Casts
 pub mod OrderKey
 pub mod Compare
 pub mod Order
