@@ -1,20 +1,16 @@
--- Two singles compare as their signs and their steps do (`Units.antt`): `lt-in-steps`, `eq-in-steps`. An infinity counts as 2 ^ 128. Assumes nothing.
+-- Two singles compare as their signs and their steps do (`Steps.antt`): `lt-in-steps`, `eq-in-steps`. An infinity counts as 2 ^ 128. Assumes nothing.
 use mathlib.Core.Path.{_≡_, refl, sym, ap, ap₂, _∙_, subst, subst₂}
-use mathlib.Core.Bool.{Bool, true, false, not, _&&_, _||_, Bool·beq, cond}
-use mathlib.Core.Logic.{_⊎_, inl, inr}
-use Prim.Native.Nat.{ℕ, zero, suc, _+_, _-_, _*_, _<_, _≤_, _^_}
+use mathlib.Core.Bool.{Bool, true, false, not, _&&_, _||_, Bool·beq}
+use Prim.Native.Nat.{ℕ, _+_, _*_, _<_, _^_}
 use native.Mathlib.Nat.{mul-assoc, mul-comm, mul-right-comm, zero-mul, add-mul, mul-pos, mul-lt-mul-of-pos-right, lt-of-mul-lt-mul-right, eq-of-mul-eq-mul-right, le-of-lt, lt-irrefl, lt-of-lt-of-le, le-add-left, le-add-right}
-use native.Mathlib.Omega.{arith}
-use lib.Dec.{T, ltb, leb, eqb, ltb→lt, lt→ltb, leb→le, le→leb, eqb→eq}
-use lib.IntN.{ℤ, pos}
+use lib.Dec.{T, ltb, eqb, ltb→lt, lt→ltb, eqb→eq}
+use lib.IntN.{ℤ}
 use lib.Pow.{pow-pos}
-use lib.Ieee.{Float, nan, inf, fin, binary32, up, down, fits, isNan, toBits, below, level, lt, eq, le}
+use lib.Ieee.{Float, nan, inf, fin, binary32, up, down, fits, isNan, below, level, lt, eq}
+use lib.Ieee.Scale.{finite}
 use lib.Ieee.Fits.{eq→eqb, down-pos}
 use borrow.Author.Tests.{lt-ltb, le-ltb, ne-eqb}
-use Rattle.font.specs.Single.{orderKey}
-use Rattle.font.proofs.Pattern.{pattern, Steps, pattern-mono, pattern-zero, pattern-under}
-use Rattle.font.proofs.Units.{steps, negative, bits-of, Value, value-of, steps-of}
-use Rattle.font.proofs.OrderKey.{key-low, key-high}
+use Rattle.font.proofs.Steps.{steps, negative, Value, value-of}
 
 -- ---- tests that agree
 
@@ -73,10 +69,10 @@ module _ {m n a b : ℕ} {e d : ℤ} (v : Value m e a) (w : Value n d b) where
   right : As (2 ^ 149) (down e * down d) (pow-pos 149) unit-pos (n * up d * down e) b
   right = record {
     unit =
-      mul-right-comm (n * up d) (down e) (2 ^ 149)
-      ∙ ap (λ (z : ℕ). z * down e) (w .scale)
-      ∙ mul-assoc b (down d) (down e)
-      ∙ ap (λ (z : ℕ). b * z) (mul-comm (down d) (down e))
+        mul-right-comm (n * up d) (down e) (2 ^ 149)
+        ∙ ap (λ (z : ℕ). z * down e) (w .scale)
+        ∙ mul-assoc b (down d) (down e)
+        ∙ ap (λ (z : ℕ). b * z) (mul-comm (down d) (down e));
   }
 
   below-in-steps : (s t : Bool) → below s (m * up e * down d) t (n * up d * down e) ≡ below s a t b
@@ -120,6 +116,10 @@ inf-inf-level true true = refl
 pub record Number (x : Float) : Type 0 where
   pub no-nan : T (not (isNan x))
   pub held : T (fits binary32 x)
+
+pub number-of-finite : (x : Float) → T (finite x) → T (fits binary32 x) → Number x
+unfolding isNan
+number-of-finite (fin s m e) h f = record { no-nan = tt; held = f }
 
 pub lt-in-steps : (x y : Float) → Number x → Number y → lt x y ≡ below (negative x) (steps x) (negative y) (steps y)
 unfolding isNan lt steps negative

@@ -1,12 +1,12 @@
 -- The order number orders singles as IEEE 754 compares them, and both zeros have one. For all singles x and y that are no NaN,
--- `lt`, `eq` and `le` are the comparisons of the carried order numbers (`orders-lt`, `orders-eq`, `orders-le`). Assumes nothing.
-use mathlib.Core.Path.{_≡_, refl, sym, ap, ap₂, _∙_, subst, subst₂}
-use mathlib.Core.Bool.{Bool, true, false, not, _&&_, _||_, Bool·beq, cond}
-use mathlib.Core.Logic.{_⊎_, inl, inr}
+-- `lt`, `eq` and `le` are the comparisons of the carried order numbers (`orders-lt`, `orders-eq`, `orders-le`; `Number` of `Compare.antt` is such an x, as each finite one is). That the carried number is the order number raised by 2 ^ 31 is `raised` of `OrderKey.antt`. Assumes nothing.
+use mathlib.Core.Path.{_≡_, refl, sym, ap, ap₂, _∙_, subst}
+use mathlib.Core.Bool.{Bool, true, false, _&&_, _||_, cond}
+use mathlib.Core.Logic.{inl, inr}
 use Prim.Native.Nat.{ℕ, _+_, _-_, _<_, _≤_, _^_}
 use native.Mathlib.Nat.{lt-of-not-le, lt-irrefl, eq-or-lt-of-le, eq-zero-or-pos, le-antisymm, le-of-eq, le-of-lt}
 use native.Mathlib.Omega.{arith}
-use lib.Dec.{T, ltb, leb, eqb, ltb→lt, lt→ltb, leb→le, le→leb, eqb→eq, lit≤, lit<}
+use lib.Dec.{T, ltb, leb, eqb, leb→le, le→leb, eqb→eq, lit≤, lit<}
 use lib.IntN.{pos}
 use lib.Ieee.{Float, nan, inf, fin, binary32, fits, isNan, toBits, ofBits, below, level, lt, eq, le, size}
 use lib.Ieee.Bits.{ofBits-toBits}
@@ -14,7 +14,7 @@ use lib.Ieee.Fits.{eq→eqb, and-i, and-l, and-r}
 use borrow.Author.Tests.{le-ltb, le-leb, ltb-true, ltb-false}
 use Rattle.font.specs.Single.{orderKey, keyOfBits}
 use Rattle.font.proofs.Pattern.{pattern, Steps, pattern-mono, pattern-zero, pattern-under}
-use Rattle.font.proofs.Units.{steps, negative, bits-of, steps-of}
+use Rattle.font.proofs.Steps.{steps, negative, bits-of, steps-of}
 use Rattle.font.proofs.OrderKey.{key-of-nan, key-low, key-high}
 use Rattle.font.proofs.Compare.{same, same-lt, same-eq, Number, lt-in-steps, eq-in-steps}
 

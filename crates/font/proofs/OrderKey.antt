@@ -4,7 +4,7 @@ use mathlib.Core.Bool.{Bool, true, false, not, cond}
 use Prim.Native.Nat.{ℕ, zero, suc, _+_, _-_, _<_, _≤_, _^_}
 use native.Mathlib.Omega.{arith}
 use lib.Dec.{T, ltb}
-use lib.IntN.{ℤ, pos, negsuc, negℤ, _+ℤ_}
+use lib.IntN.{pos, negsuc, negℤ, _+ℤ_}
 use lib.Ieee.{Float, nan, binary32, fits, isNan, toBits}
 use lib.Ieee.Bits.{cond-no, toBits-lt}
 use borrow.Author.Tests.{lt-ltb, le-ltb, ltb-false}

@@ -3,7 +3,7 @@ use mathlib.Core.Path.{_≡_, refl, sym, ap, _∙_, subst₂}
 use mathlib.Core.Bool.{Bool, true, false, not, cond}
 use mathlib.Core.Logic.{inl, inr}
 use Prim.Native.Nat.{ℕ, _+_, _-_, _*_, _/_, _%_, _^_, _≤_, _<_, min}
-use native.Mathlib.Nat.{mul-assoc, mul-div-mul-right, mul-div-cancel, div-eq-of-lt, eq-zero-or-pos, lt-of-lt-of-le, lt-of-le-of-lt, le-trans, mul-le-mul, mul-lt-mul-of-pos-right, mul-le-mul-left, div-le-self, mod-eq-of-lt}
+use native.Mathlib.Nat.{mul-assoc, mul-div-mul-right, mul-div-cancel, div-eq-of-lt, eq-zero-or-pos, lt-of-lt-of-le, lt-of-le-of-lt, mul-le-mul, div-le-self, mod-eq-of-lt}
 use native.Mathlib.Omega.{arith}
 use lib.Dec.{T}
 use lib.Pow.{pow-add, pow-pos, pow-mono, shl-lt}
@@ -13,7 +13,7 @@ use lib.Ieee.Fits.{down-pos}
 use lib.Ieee.Nearest.{div-same}
 use Rattle.font.specs.Single.{wholeOf}
 use Rattle.font.proofs.Pattern.{dropped, kept, pattern, Steps, kept-under, lead, pattern-under}
-use Rattle.font.proofs.Units.{steps, negative, bits-of, value-of, steps-of}
+use Rattle.font.proofs.Steps.{steps, negative, bits-of, value-of, steps-of}
 
 -- ---- the whole part of n steps
 

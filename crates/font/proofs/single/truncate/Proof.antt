@@ -1,11 +1,11 @@
 -- `single::truncate` meets its contract: each return is a case of `Cut`, of `proofs/Whole.antt`. Assumes nothing.
-use mathlib.Core.Path.{_≡_, refl, sym, ap, _∙_, subst}
+use mathlib.Core.Path.{_≡_, sym, ap, subst}
 use mathlib.Core.Bool.{false}
 use lib.Dec.{T}
-use lib.Ieee.{Float, nan, ne, binary32, fits, isNan, toBits}
+use lib.Ieee.{Float, ne, binary32, toBits}
 use lib.Ieee.Compare.{differs-from-itself}
 use borrow.Author.Needs.{needs}
-use Prim.Native.Nat.{ℕ, _%_, _^_}
+use Prim.Native.Nat.{_%_, _^_}
 use Rattle.font.specs.Single.{wholeOf}
 use Rattle.font.proofs.Nan.{no-nan}
 use Rattle.font.proofs.Whole.{Cut, whole-cut}

@@ -10,7 +10,6 @@ use mir.Syntax.{w8}
 use mir.Val.{SFits, toZ, ofZ}
 use mir.Facts.{toZ-pos, toZ-ofZ}
 use borrow.Author.Needs.{needs}
-use Rattle.font.specs.Single.{wholeOf}
 use Rattle.font.proofs.Casts.{signed-below, signed-else}
 use Rattle.font.proofs.single.truncate_to_i8.Statement.{statement}
 use Rattle.font.proofs.single.truncate_to_i8.Tie as tie
