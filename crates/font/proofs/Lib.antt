@@ -1,8 +1,19 @@
 -- Laws that the proofs of `font` share, and laws that tie its definitions to the document's words.
+-- Section 1: single-precision numbers.
 pub mod Closest
 pub mod Units
 pub mod Fixed
 pub mod Nearest
+pub mod Nan
+pub mod Pattern
+pub mod Steps
+pub mod Whole
+pub mod Casts
+pub mod OrderKey
+pub mod Compare
+pub mod Order
+pub mod Percent
+-- Section 2: font reading.
 pub mod Fields
 pub mod First
 pub mod Least

@@ -2,8 +2,8 @@
 ghost use mathlib.Core.Path.{_≡_};
 ghost use mathlib.Core.Bool.{false};
 ghost use lib.Ieee.Scale.{finite};
-ghost use lib.Ieee.{toUnsigned, toSigned, toBits, round, binary32};
-ghost use Rattle.font.specs.Single.{orderKey, fixedToSingle, wholeOf};
+ghost use lib.Ieee.{toSigned, toBits, round, binary32};
+ghost use Rattle.font.specs.Single.{orderKey, fixedToSingle, wholeOf, wholePercent, acceptedRatio};
 
 // The bits of positive infinity.
 const INFINITY: u32 = 0x7F80_0000;
@@ -79,4 +79,42 @@ pub fn truncate(x: f32) -> u32
         return significand << (exponent - 150);
     }
     0xFFFF_FFFF
+}
+
+// The ratio times 100, rounded once to single, without its fraction: held to 0 to 2^32 - 1, and 0 for a NaN.
+pub fn whole_percent(ratio: f32) -> u32
+    ensures { λ r. ⌜ r ≡ wholePercent ratio ⌝ }
+{
+    let percent = ratio * 100.0;
+    if percent < 0.0 {
+        return 0;
+    }
+    truncate(percent)
+}
+
+// x without its fraction, held to -128 to 127; 0 for a NaN.
+pub fn truncate_to_i8(x: f32) -> i8
+    ensures { λ r. ⌜ r ≡ toSigned 7 x ⌝ }
+{
+    let magnitude = truncate(x);
+    if x < 0.0 {
+        if magnitude < 128 {
+            -(magnitude as i8)
+        } else {
+            -128
+        }
+    } else {
+        if magnitude < 127 {
+            magnitude as i8
+        } else {
+            127
+        }
+    }
+}
+
+// Whether x is a width ratio that is accepted: 0 to 16.
+pub fn is_ratio(x: f32) -> bool
+    ensures { λ r. ⌜ r ≡ acceptedRatio x ⌝ }
+{
+    if 0.0 <= x { x <= 16.0 } else { false }
 }

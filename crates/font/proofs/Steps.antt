@@ -1,0 +1,101 @@
+-- What a single is made of: its sign, and its magnitude in steps of 2 ^ -149 (`Pattern.antt`). Its bits, its whole part and its order follow from the two. Assumes nothing.
+use mathlib.Core.Path.{_≡_, refl, sym, ap, _∙_, subst}
+use mathlib.Core.Bool.{Bool, false, not, _&&_, cond}
+use Prim.Native.Nat.{ℕ, zero, suc, _+_, _-_, _*_, _/_, _%_, _^_, _≤_, _<_}
+use native.Mathlib.Nat.{mul-assoc, mul-one, mul-right-comm, zero-mul, add-assoc, mul-pos, mul-le-mul-right, mul-lt-mul-of-pos-right, lt-of-mul-lt-mul-right, le-of-lt, le-of-eq, le-trans, le-refl, lt-irrefl, lt-of-not-le, lt-of-lt-of-le, le-of-suc-le-suc, div-eq-of-eq-mul-left, one-mul}
+use lib.Dec.{T, eqb, leb, ltb, lit<, eqb→eq, ltb→lt, leb→le}
+use lib.IntN.{ℤ, pos, negsuc}
+use lib.Pow.{pow-add, pow-pos, pow-lt}
+use lib.Ieee.{Float, nan, inf, fin, binary32, up, down, fits, isNan, toBits, size}
+use lib.Ieee.Digits.{back}
+use lib.Ieee.Fits.{and-l, and-r, up-pos, down-pos}
+use Rattle.font.proofs.Pattern.{dropped, kept, pattern, Steps, kept-exact}
+
+unfoldable pub steps : Float → ℕ
+steps nan = 0
+steps (inf s) = 2 ^ 277
+steps (fin s m e) = m * up e * 2 ^ 149 / down e
+
+unfoldable pub negative : Float → Bool
+negative nan = false
+negative (inf s) = s
+negative (fin s m e) = s
+
+-- the bits are the sign's and the magnitude's
+pub bits-of : (x : Float) → T (not (isNan x)) → toBits binary32 x ≡ cond (negative x) (2 ^ 31) 0 + pattern (steps x)
+unfolding isNan toBits steps negative pattern size
+bits-of nan h = absurd h
+bits-of (inf s) h = refl
+bits-of (fin s m e) h =
+    let n = m * up e * 2 ^ 149 / down e in
+    add-assoc (cond s (2 ^ 31) 0) (dropped n * 2 ^ 23) (kept n)
+
+-- ---- a number that the format holds is a whole number of steps
+
+-- what `fits` says of a significand and an exponent
+record Bounds (m : ℕ) (e : ℤ) : Type 0 where
+  digits : m < 2 ^ 24
+  low : down e ≤ 2 ^ 149
+  high : m * up e < 2 ^ 128 * down e
+
+bounds : (s : Bool) (m : ℕ) (e : ℤ) → T (fits binary32 (fin s m e)) → Bounds m e
+unfolding fits
+bounds s zero e h =
+    let one : down e ≤ 1 = subst (λ (x : ℕ). down e ≤ x) (eqb→eq (up e * down e) 1 h) (le-trans (le-of-eq (sym (one-mul (down e)))) (mul-le-mul-right (down e) (up-pos e))) in
+    record {
+      digits = lit< tt;
+      low = le-trans one (pow-pos 149);
+      high = subst (λ (x : ℕ). x < 2 ^ 128 * down e) (sym (zero-mul (up e))) (mul-pos (pow-pos 128) (down-pos e));
+    }
+bounds s (suc m) e h =
+    let A = eqb (suc m % 2) 1 in
+    let B = ltb (suc m) (2 ^ 24) in
+    let C = leb (down e) (2 ^ 149) in
+    let D = ltb (suc m * up e) (2 ^ 128 * down e) in
+    record {
+      digits = ltb→lt (suc m) (2 ^ 24) (and-r A B (and-l (A && B) C (and-l (A && B && C) D h)));
+      low = leb→le (down e) (2 ^ 149) (and-r (A && B) C (and-l (A && B && C) D h));
+      high = ltb→lt (suc m * up e) (2 ^ 128 * down e) (and-r (A && B && C) D h);
+    }
+
+pow-le-back : (a l : ℕ) → 2 ^ a ≤ 2 ^ l → a ≤ l
+pow-le-back a l h = le-of-suc-le-suc (lt-of-not-le (λ (g : suc l ≤ a). lt-irrefl (2 ^ l) (lt-of-lt-of-le (pow-lt g) h)))
+
+-- m * 2 ^ e is m * 2 ^ j steps of 2 ^ -l
+scaled : (l m : ℕ) (e : ℤ) → down e ≤ 2 ^ l → (j : ℕ) × (m * up e * 2 ^ l ≡ m * 2 ^ j * down e)
+scaled l m (pos a) h = (a + l, mul-assoc m (2 ^ a) (2 ^ l) ∙ ap (λ (x : ℕ). m * x) (sym (pow-add 2 a l)) ∙ sym (mul-one (m * 2 ^ (a + l))))
+scaled l m (negsuc a) h = (
+  l - suc a,
+  ap (λ (x : ℕ). x * 2 ^ l) (mul-one m)
+      ∙ ap (λ (x : ℕ). m * x) (ap (λ (x : ℕ). 2 ^ x) (sym (back l (suc a) (pow-le-back (suc a) l h))) ∙ pow-add 2 (l - suc a) (suc a))
+      ∙ sym (mul-assoc m (2 ^ (l - suc a)) (2 ^ suc a)),
+)
+
+under : (l t a d n : ℕ) → 0 < l → a < t * d → a * l ≡ n * d → n < t * l
+under l t a d n L h e =
+    lt-of-mul-lt-mul-right d (subst (λ (x : ℕ). x < t * l * d) e (subst (λ (x : ℕ). a * l < x) (mul-right-comm t d l) (mul-lt-mul-of-pos-right h L)))
+
+pub record Value (m : ℕ) (e : ℤ) (n : ℕ) : Type 0 where
+  pub scale : m * up e * 2 ^ 149 ≡ n * down e
+  pub exact : kept n * 2 ^ dropped n ≡ n
+  pub finite : n < 2 ^ 277
+
+pub value-of : (s : Bool) (m : ℕ) (e : ℤ) → T (fits binary32 (fin s m e)) → Value m e (steps (fin s m e))
+unfolding steps
+value-of s m e h =
+    let b = bounds s m e h in
+    let p = scaled 149 m e (b .low) in
+    let n = m * 2 ^ p.0 in
+    let e′ : n ≡ steps (fin s m e) = sym (div-eq-of-eq-mul-left (down-pos e) (p .1)) in
+    subst (Value m e) e′
+    (record {
+      scale = p .1;
+      exact = kept-exact m (p .0) (b .digits);
+      finite = under (2 ^ 149) (2 ^ 128) (m * up e) (down e) n (pow-pos 149) (b .high) (p .1);
+    })
+
+pub steps-of : (x : Float) → T (not (isNan x)) → T (fits binary32 x) → Steps (steps x)
+unfolding isNan steps size
+steps-of nan h f = absurd h
+steps-of (inf s) h f = record { exact = refl; under = le-refl (2 ^ 277) }
+steps-of (fin s m e) h f = let v = value-of s m e f in record { exact = v .exact; under = le-of-lt (v .finite) }
