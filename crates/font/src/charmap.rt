@@ -1,8 +1,8 @@
 // The charmap index: which `cmap` subtable maps characters to glyphs.
 ghost use mathlib.Core.Path.{_≡_};
-ghost use Prim.Native.Nat.{_+_, _*_, _≤_, _<_};
+ghost use Prim.Native.Nat.{_+_, _*_, _^_, _≤_, _<_};
 ghost use lib.ListN.{length};
-ghost use Rattle.font.specs.Charmap.{classOf, recordClass, bestClass, bestRecord, charmapIndex};
+ghost use Rattle.font.specs.Charmap.{classOf, recordClass, bestClass, bestRecord, indexOf, charmapIndex};
 use crate::tables;
 use crate::tables::Table;
 
@@ -82,7 +82,7 @@ fn record_class(cmap: &[u8], i: usize) -> u8
 // The first record of the best class.
 fn best_record(cmap: &[u8]) -> BestRecord
     requires { ⌜ 4 ≤ length (now cmap) ⌝ }
-    ensures { λ r. ⌜ (r .class ≡ bestClass (now (cmap .entry))) × (r .class < 4 → r .i ≡ bestRecord (now (cmap .entry))) ⌝ }
+    ensures { λ r. ⌜ (r .class ≡ bestClass (now (cmap .entry))) × (r .class < 4 → r .i ≡ bestRecord (now (cmap .entry))) × (r .i < 65536) ⌝ }
 {
     let count = tables::u16_at(cmap, 2) as usize;
     let whole = (cmap.len() - 4) / 8;
@@ -101,23 +101,30 @@ fn best_record(cmap: &[u8]) -> BestRecord
     best
 }
 
+// The index of the best record of a `cmap` table that lies at `offset` in the file.
+fn index_of(offset: usize, cmap: &[u8]) -> Charmap
+    requires { ⌜ (offset < 2 ^ 63) × (4 ≤ length (now cmap)) ⌝ }
+    ensures { λ r. ⌜ r ≡ indexOf offset (now (cmap .entry)) ⌝ }
+{
+    let best = best_record(cmap);
+    if best.class < 4 {
+        let subtable = tables::u32_at(cmap, 8 + 8 * best.i) as usize;
+        return Charmap::Index(CharmapIndex {
+            subtable_offset: offset + subtable,
+            is_symbol: best.class == 2,
+            is_mac_roman: best.class == 3,
+        });
+    }
+    Charmap::Missing
+}
+
 impl CharmapIndex {
     pub fn new(font: &[u8]) -> Charmap
         ensures { λ r. ⌜ r ≡ charmapIndex (now (font .entry)) ⌝ }
     {
-        let Table::Found { offset, length } = tables::find_table(font, 0x636D_6170, 4) else {
-            return Charmap::Missing;
-        };
-        let cmap = &font[offset..offset + length];
-        let best = best_record(cmap);
-        if best.class < 4 {
-            let subtable = tables::u32_at(cmap, 8 + 8 * best.i) as usize;
-            return Charmap::Index(CharmapIndex {
-                subtable_offset: offset + subtable,
-                is_symbol: best.class == 2,
-                is_mac_roman: best.class == 3,
-            });
+        match tables::find_table(font, 0x636D_6170, 4) {
+            Table::Found { offset, length } => index_of(offset, &font[offset..offset + length]),
+            Table::Absent => Charmap::Missing,
         }
-        Charmap::Missing
     }
 }

@@ -13,7 +13,7 @@ use Rattle.font.proofs.charmap.best_record.Statement.{statement}
 use Rattle.font.proofs.charmap.best_record.Tie as tie
 
 abbrev Inv-loop : tie.InvT-loop
-Inv-loop cmap count whole best₀ i₀ best i = (i ≤ count) × Best 4 (recordClass cmap) i (best .class) (best .i)
+Inv-loop cmap count whole best₀ i₀ best i = (i ≤ count) × Best 4 (recordClass cmap) i (best .class) (best .i) × (best .i ≤ count)
 
 abbrev μ-loop : tie.MeasureT-loop
 μ-loop cmap count whole best₀ i₀ best i = count - i
@@ -28,7 +28,7 @@ sub-whole : tie.Need-sub-whole Inv-loop μ-loop
 sub-whole c = search needs
 
 loop-holds : tie.Need-loop-holds Inv-loop μ-loop
-loop-holds c = (omega arith, best-start _ _ _)
+loop-holds c = (omega arith, best-start _ _ _, omega arith)
 
 returns : tie.Need-returns Inv-loop μ-loop
 unfolding bestClass bestRecord
@@ -38,7 +38,8 @@ returns c = let at = c .before .before in
     let all =
         best-done 4 f (c .before .before .before .u16-at .result) (at .loop .best .class) (at .loop .best .i)
         (best-rest 4 f (at .loop .i) (c .before .before .before .u16-at .result) (at .loop .best .class) (at .loop .best .i) (at .loop .inv .0) (λ k g. omega (arith, past cmap k (omega arith))) (at .loop .inv .1)) in
-    rw (c .before .before .before .u16-at .ensures) at all
+    let told = rw (c .before .before .before .u16-at .ensures) at all in
+    (told .0, told .1, omega arith)
 
 record-class-requires : tie.Need-record-class-requires Inv-loop μ-loop
 record-class-requires c κs = omega arith
@@ -52,13 +53,14 @@ loop-less c = search needs
 loop-again : tie.Need-loop-again Inv-loop μ-loop
 loop-again c = let class = c .before .before .record-class .ensures in
     let inv = c .before .before .before .before .before .loop .inv .1 in
-    (search needs, ⊎-elim (λ w. rw (w .1, class) (best-new 4 _ _ _ _ inv (omega (arith, w .0 .taken, class)))) (λ w. rw (w .1) (best-kept 4 _ _ _ _ inv (omega (arith, w .0 .left, class)))) (c .if2 .came))
+    (search needs, ⊎-elim (λ w. rw (w .1, class) (best-new 4 _ _ _ _ inv (omega (arith, w .0 .taken, class)))) (λ w. rw (w .1) (best-kept 4 _ _ _ _ inv (omega (arith, w .0 .left, class)))) (c .if2 .came), ⊎-elim (λ w. rw (w .1) (omega arith)) (λ w. rw (w .1) (omega arith)) (c .if2 .came))
 
 returns-2 : tie.Need-returns-2 Inv-loop μ-loop
 unfolding bestClass bestRecord
 returns-2 c = let end : c .before .loop .i ≡ c .before .before .u16-at .result = omega arith in
     let all = best-done 4 _ _ _ _ (c .before .loop .inv .1) in
-    rw (end, c .before .before .u16-at .ensures) at all
+    let told = rw (end, c .before .before .u16-at .ensures) at all in
+    (told .0, told .1, omega arith)
 
 pub best-record-spec : {M : Type 1} → statement M
 best-record-spec =

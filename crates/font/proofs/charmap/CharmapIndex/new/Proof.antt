@@ -1,3 +1,12 @@
+-- `font::charmap::CharmapIndex::new` meets its contract: a found table lies in the file and has 4 bytes.
+-- Assumes nothing.
+use mathlib.Core.Path.{sym, _∙_, ap}
+use native.Mathlib.Omega.{arith}
+use native.Mathlib.Nat.{add-sub-cancel-left}
+use lib.ListN.{length-take, length-drop}
+use Rattle.font.specs.Tables.{partOf}
+use Rattle.font.specs.Charmap.{charmapIndex, indexIn}
+use Rattle.font.proofs.Lookup.{within}
 use borrow.Author.Needs.{needs}
 use Rattle.font.proofs.charmap.CharmapIndex.new.Statement.{statement}
 use Rattle.font.proofs.charmap.CharmapIndex.new.Tie as tie
@@ -8,47 +17,32 @@ find-table-requires c κs = search needs
 enum-known-offset : tie.Need-enum-known-offset
 enum-known-offset c = search needs
 
+add-index-of : tie.Need-add-index-of
+add-index-of c = omega (arith, within _ _ _ _ _ (sym (c .before .before .before .find-table .ensures) ∙ c .before .offset .given .1) .inside)
+
+sub-index-of : tie.Need-sub-index-of
+sub-index-of c = search needs
+
+part-index-of-start : tie.Need-part-index-of-start
+part-index-of-start c = search needs
+
+part-index-of-end : tie.Need-part-index-of-end
+part-index-of-end c = within _ _ _ _ _ (sym (c .before .before .before .find-table .ensures) ∙ c .before .offset .given .1) .inside
+
+index-of-requires : tie.Need-index-of-requires
+index-of-requires c κs = let w = within _ _ _ _ _ (sym (c .before .before .before .before .find-table .ensures) ∙ c .before .before .offset .given .1) in
+    (omega (arith, w .inside, c .before .before .before .before .before .before .good), simp (add-sub-cancel-left, length-take, length-drop) (omega (arith, w .inside, w .enough)))
+
 enum-told : tie.Need-enum-told
 enum-told c = search needs
 
 returns : tie.Need-returns
-returns c = ?
-
-add-cmap : tie.Need-add-cmap
-add-cmap c = ?
-
-sub-cmap : tie.Need-sub-cmap
-sub-cmap c = search needs
-
-part-cmap-start : tie.Need-part-cmap-start
-part-cmap-start c = search needs
-
-part-cmap-end : tie.Need-part-cmap-end
-part-cmap-end c = ?
-
-best-record-requires : tie.Need-best-record-requires
-best-record-requires c κs = ?
-
-mul-u32-at : tie.Need-mul-u32-at
-mul-u32-at c = ?
-
-add-u32-at : tie.Need-add-u32-at
-add-u32-at c = ?
-
-u32-at-requires : tie.Need-u32-at-requires
-u32-at-requires c κs = search needs
-
-cast-subtable : tie.Need-cast-subtable
-cast-subtable c = search needs
-
-add-t14 : tie.Need-add-t14
-add-t14 c = ?
+unfolding charmapIndex indexIn partOf
+returns c = c .index-of .ensures ∙ simp (add-sub-cancel-left, (sym (c .before .before .before .before .before .find-table .ensures) ∙ c .before .before .before .offset .given .1))
 
 returns-2 : tie.Need-returns-2
-returns-2 c = ?
-
-returns-3 : tie.Need-returns-3
-returns-3 c = ?
+unfolding charmapIndex indexIn partOf
+returns-2 c = simp (sym (c .before .before .find-table .ensures) ∙ c .enum-told .given .1)
 
 pub new-spec : {M : Type 1} → statement M
 new-spec =
@@ -56,17 +50,11 @@ new-spec =
     (tie.spec
     find-table-requires
     enum-known-offset
+    add-index-of
+    sub-index-of
+    part-index-of-start
+    part-index-of-end
+    index-of-requires
     enum-told
     returns
-    add-cmap
-    sub-cmap
-    part-cmap-start
-    part-cmap-end
-    best-record-requires
-    mul-u32-at
-    add-u32-at
-    u32-at-requires
-    cast-subtable
-    add-t14
-    returns-2
-    returns-3)
+    returns-2)
