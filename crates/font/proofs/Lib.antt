@@ -17,5 +17,7 @@ pub mod Percent
 pub mod Fields
 pub mod First
 pub mod Least
+pub mod Tabulated
 pub mod Lookup
 pub mod Records
+pub mod Classes

@@ -11,12 +11,11 @@ use Rattle.font.specs.declared.attributes.Angle.the-variants.{Unstated, 
 use Rattle.font.specs.declared.attributes.FontStyle.the-variants.{Normal, Italic, Oblique}
 use Rattle.font.specs.Single.{single, acceptedRatio}
 
-unfoldable pub attributesOf : Float → FontStyle → Float → Attributes
+abbrev pub attributesOf : Float → FontStyle → Float → Attributes
 attributesOf ratio style weight = record { width = record { ratio = ratio }; style = style; weight = record { value = weight } }
 
 -- "Default attributes are width 1, normal, weight 400."
 unfoldable pub defaultAttributes : Attributes
-unfolding attributesOf
 defaultAttributes = attributesOf (single 1) Normal (single 400)
 
 -- "Weights, angles and axis values are finite; width ratios are 0 to 16."

@@ -1,6 +1,7 @@
 -- The first of some numbered things that has a property, and the least value among them.
 use Prim.Native.Nat.{ℕ, zero, suc, min}
 use mathlib.Core.Bool.{Bool, cond}
+use mathlib.Core.List.{List, [], _∷_, _++_}
 use lib.Dec.{ltb, eqb}
 
 -- the first i below n that p holds of, or n where there is none
@@ -16,3 +17,8 @@ leastBelow top f (suc n) = min (leastBelow top f n) (f n)
 -- the first i below n that has the least value
 unfoldable pub firstLeast : ℕ → (ℕ → ℕ) → ℕ → ℕ
 firstLeast top f n = first (λ i. eqb (f i) (leastBelow top f n)) n
+
+-- the list of f 0, f 1, .. of n elements
+unfoldable pub tabulate {ℓ} : {A : Type ℓ} → (ℕ → A) → ℕ → List A
+tabulate f zero = []
+tabulate f (suc n) = tabulate f n ++ (f n ∷ [])

@@ -5,3 +5,5 @@ pub mod Nearest
 pub mod Attributes
 pub mod Tables
 pub mod Charmap
+pub mod Reading
+pub mod Font

@@ -1,5 +1,6 @@
 // Properties for specifying font matching attributes.
 ghost use mathlib.Core.Path.{_≡_};
+ghost use Rattle.font.specs.Attributes.{attributesOf};
 
 // The angle of an oblique style, in degrees, or none stated.
 pub enum Angle {
@@ -56,17 +57,12 @@ impl Attributes {
     };
 
     pub fn new(width: FontWidth, style: FontStyle, weight: FontWeight) -> Self
-        ensures { λ r. ⌜ (r .width ≡ width) × (r .style ≡ style) × (r .weight ≡ weight) ⌝ }
+        ensures { λ r. ⌜ r ≡ attributesOf (width .ratio) style (weight .value) ⌝ }
     {
         Attributes {
             width,
             style,
             weight,
         }
-    }
-
-    pub fn base() -> Self
-    {
-        Attributes::DEFAULT
     }
 }

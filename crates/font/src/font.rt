@@ -1,10 +1,27 @@
 // Model for a font.
 ghost use mathlib.Core.Path.{_≡_};
+ghost use Prim.Native.Nat.{_<_, _≤_};
+ghost use Rattle.font.specs.Reading.{widthOfClass, postAngle, os2Style, fromOs2Post, headStyle, headWeight, fromHead, readAttributes};
+ghost use Rattle.font.specs.Tables.{tableData};
+ghost use Rattle.font.specs.Font.{axisCount, axisAt, axesOf, refusedFont, withIndex, fromFontRef};
+use crate::attributes::Angle;
 use crate::attributes::Attributes;
+use crate::attributes::FontStyle;
+use crate::attributes::FontWeight;
+use crate::attributes::FontWidth;
+use crate::charmap::Charmap;
 use crate::charmap::CharmapIndex;
+use crate::single;
+use crate::tables;
 
-// The most axes that a face holds.
-pub const MOST_AXES: usize = 16;
+// The tags of the tables that are read.
+const OS2: u32 = 0x4F53_2F32;
+const POST: u32 = 0x706F_7374;
+const HEAD: u32 = 0x6865_6164;
+const FVAR: u32 = 0x6676_6172;
+
+// The ratios of the width classes 0 to 8.
+const RATIOS: [f32; 9] = [0.5, 0.5, 0.625, 0.75, 0.875, 1.0, 1.125, 1.25, 1.5];
 
 // An axis of variation. The tag is its four bytes as a big-endian number.
 pub struct AxisInfo {
@@ -31,6 +48,143 @@ pub struct FontInfo {
     pub charmap_index: CharmapIndex,
 }
 
+// A face, or the number of the refusal beside a face that says nothing. 0 is no refusal.
+pub struct Checked {
+    pub refusal: u8,
+    pub font: FontInfo,
+}
+
+fn width_from_width_class(class: u16) -> FontWidth
+    ensures { λ r. ⌜ r .ratio ≡ widthOfClass class ⌝ }
+{
+    if class < 9 {
+        FontWidth::new(RATIOS[class as usize])
+    } else {
+        FontWidth::new(2.0)
+    }
+}
+
+fn post_angle(post: &[u8]) -> Angle
+    ensures { λ r. ⌜ r ≡ postAngle (now (post .entry)) ⌝ }
+{
+    if 0 < post.len() {
+        Angle::Degrees(single::fixed_to_single(tables::u32_at(post, 4)))
+    } else {
+        Angle::Unstated
+    }
+}
+
+// The `post` table is looked up for an oblique face alone.
+fn os2_style(font: &[u8], os2: &[u8]) -> FontStyle
+    ensures { λ r. ⌜ r ≡ os2Style (now (os2 .entry)) (tableData (now (font .entry)) 0x706F7374 32) ⌝ }
+{
+    let selection = tables::u16_at(os2, 62);
+    if selection % 2 == 1 {
+        return FontStyle::Italic;
+    }
+    if selection / 512 % 2 == 1 {
+        return FontStyle::Oblique(post_angle(tables::table_data(font, POST, 32)));
+    }
+    FontStyle::Normal
+}
+
+fn from_os2_post(font: &[u8], os2: &[u8]) -> Attributes
+    ensures { λ r. ⌜ r ≡ fromOs2Post (now (os2 .entry)) (tableData (now (font .entry)) 0x706F7374 32) ⌝ }
+{
+    let width = width_from_width_class(tables::u16_at(os2, 6));
+    let style = os2_style(font, os2);
+    let weight = FontWeight::new(tables::u16_at(os2, 4) as f32);
+    Attributes::new(width, style, weight)
+}
+
+fn head_style(mac_style: u16) -> FontStyle
+    ensures { λ r. ⌜ r ≡ headStyle «mac_style» ⌝ }
+{
+    if mac_style / 2 % 2 == 1 {
+        FontStyle::Italic
+    } else {
+        FontStyle::Normal
+    }
+}
+
+fn head_weight(mac_style: u16) -> FontWeight
+    ensures { λ r. ⌜ r .value ≡ headWeight «mac_style» ⌝ }
+{
+    if mac_style % 2 == 1 {
+        FontWeight::BOLD
+    } else {
+        FontWeight::NORMAL
+    }
+}
+
+fn from_head(head: &[u8]) -> Attributes
+    ensures { λ r. ⌜ r ≡ fromHead (now (head .entry)) ⌝ }
+{
+    let mac_style = tables::u16_at(head, 44);
+    let style = head_style(mac_style);
+    let weight = head_weight(mac_style);
+    Attributes::new(FontWidth::NORMAL, style, weight)
+}
+
+// The attributes that the font states: OS/2's before `head`'s before the defaults.
+pub fn read_attributes(font: &[u8]) -> Attributes
+    ensures { λ r. ⌜ r ≡ readAttributes (now (font .entry)) ⌝ }
+{
+    let os2 = tables::table_data(font, OS2, 78);
+    if 0 < os2.len() {
+        return from_os2_post(font, os2);
+    }
+    let head = tables::table_data(font, HEAD, 54);
+    if 0 < head.len() {
+        return from_head(head);
+    }
+    Attributes::DEFAULT
+}
+
+// The number of axes that an `fvar` table gives.
+fn axis_count(fvar: &[u8]) -> usize
+    ensures { λ r. ⌜ (r ≡ axisCount (now (fvar .entry))) × (r < 65536) ⌝ }
+{
+    if fvar.len() == 0 {
+        return 0;
+    }
+    if tables::u16_at(fvar, 10) == 20 {
+        let offset = tables::u16_at(fvar, 4) as usize;
+        let count = tables::u16_at(fvar, 8) as usize;
+        if offset + 20 * count <= fvar.len() {
+            return count;
+        }
+    }
+    0
+}
+
+fn axis_at(fvar: &[u8], i: usize) -> AxisInfo
+    requires { ⌜ i < 65536 ⌝ }
+    ensures { λ r. ⌜ r ≡ axisAt (now (fvar .entry)) i ⌝ }
+{
+    let at = tables::u16_at(fvar, 4) as usize + 20 * i;
+    AxisInfo {
+        tag: tables::u32_at(fvar, at),
+        min: single::fixed_to_single(tables::u32_at(fvar, at + 4)),
+        default: single::fixed_to_single(tables::u32_at(fvar, at + 8)),
+        max: single::fixed_to_single(tables::u32_at(fvar, at + 12)),
+    }
+}
+
+// The axis records of a face with `count` axes.
+fn read_axes(fvar: &[u8], count: usize) -> [AxisInfo; 16]
+    requires { ⌜ count ≤ 16 ⌝ }
+    ensures { λ r. ⌜ r ≡ axesOf (now (fvar .entry)) count ⌝ }
+{
+    let mut axes = [AxisInfo::NONE; 16];
+    let mut i: usize = 0;
+    while i < count {
+        axes[i] = axis_at(fvar, i);
+        i += 1;
+    }
+    axes
+}
+
 impl FontInfo {
     pub const EMPTY: FontInfo = FontInfo {
         attributes: Attributes::DEFAULT,
@@ -43,7 +197,48 @@ impl FontInfo {
         },
     };
 
-    pub fn e() -> FontInfo {
-        FontInfo::EMPTY
+    // The face of a font file, or the refusal 21, 22 or 23.
+    pub fn from_font_ref(font: &[u8]) -> Checked
+        ensures { λ r. ⌜ r ≡ fromFontRef (now (font .entry)) ⌝ }
+    {
+        if tables::directory_fits(font) {
+            match CharmapIndex::new(font) {
+                Charmap::Index(index) => with_index(font, index),
+                Charmap::Missing => refused(22),
+            }
+        } else {
+            refused(21)
+        }
+    }
+}
+
+fn refused(refusal: u8) -> Checked
+    ensures { λ r. ⌜ r ≡ refusedFont refusal ⌝ }
+{
+    Checked {
+        refusal,
+        font: FontInfo::EMPTY,
+    }
+}
+
+// The face of a font file whose charmap index is known.
+fn with_index(font: &[u8], index: CharmapIndex) -> Checked
+    ensures { λ r. ⌜ r ≡ withIndex (now (font .entry)) index ⌝ }
+{
+    let fvar = tables::table_data(font, FVAR, 16);
+    let count = axis_count(fvar);
+    if 16 < count {
+        return refused(23);
+    }
+    let attributes = read_attributes(font);
+    let axes = read_axes(fvar, count);
+    Checked {
+        refusal: 0,
+        font: FontInfo {
+            attributes,
+            axes,
+            axis_count: count,
+            charmap_index: index,
+        },
     }
 }

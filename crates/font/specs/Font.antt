@@ -1,0 +1,83 @@
+-- Section 2: axes, and the face that a font file gives.
+use Prim.Native.Nat.{ℕ, _+_, _*_}
+use mathlib.Core.Bool.{Bool, false, _&&_, cond}
+use mathlib.Core.List.{List}
+use lib.ListN.{length}
+use lib.Dec.{leb, ltb, eqb}
+use Rattle.font.specs.declared.charmap.CharmapIndex.{CharmapIndex}
+use Rattle.font.specs.declared.charmap.Charmap.{Charmap}
+use Rattle.font.specs.declared.charmap.Charmap.the-variants.{Missing, Index}
+use Rattle.font.specs.declared.font.AxisInfo.{AxisInfo}
+use Rattle.font.specs.declared.font.FontInfo.{FontInfo}
+use Rattle.font.specs.declared.font.Checked.{Checked}
+use Rattle.font.specs.First.{tabulate}
+use Rattle.font.specs.Single.{single, fixedToSingle}
+use Rattle.font.specs.Attributes.{defaultAttributes}
+use Rattle.font.specs.Tables.{u16At, u32At, tableData, directoryFits}
+use Rattle.font.specs.Charmap.{charmapIndex}
+use Rattle.font.specs.Reading.{present, readAttributes}
+
+-- "`fvar`, at least 16 bytes"
+unfoldable pub fvarOf : List ℕ → List ℕ
+fvarOf font = tableData font 0x66766172 16
+
+-- "16-bit axis offset at 4, count at 8, size at 10. Size other than 20, or records past the table, give no axes."
+unfoldable pub axisCount : List ℕ → ℕ
+axisCount fvar =
+    cond (present fvar && (eqb (u16At fvar 10) 20 && leb (u16At fvar 4 + 20 * u16At fvar 8) (length fvar)))
+    (u16At fvar 8)
+    0
+
+-- "A record holds tag, minimum, default, maximum (16.16), 4 further bytes. An axis keeps its three numbers as singles."
+unfoldable pub axisAt : List ℕ → ℕ → AxisInfo
+axisAt fvar i =
+    record
+    { tag = u32At fvar (u16At fvar 4 + 20 * i)
+    ; min = fixedToSingle (u32At fvar (u16At fvar 4 + 20 * i + 4))
+    ; default = fixedToSingle (u32At fvar (u16At fvar 4 + 20 * i + 8))
+    ; max = fixedToSingle (u32At fvar (u16At fvar 4 + 20 * i + 12))
+    }
+
+-- what stands in a face past its axes
+unfoldable pub noAxis : AxisInfo
+noAxis = record { tag = 0; min = single 0; default = single 0; max = single 0 }
+
+-- the sixteen axis records of a face with n axes
+unfoldable pub axesOf : List ℕ → ℕ → List AxisInfo
+axesOf fvar n = tabulate (λ i. cond (ltb i n) (axisAt fvar i) noAxis) 16
+
+unfoldable pub noIndex : CharmapIndex
+noIndex = record { «subtable_offset» = 0; «is_symbol» = false; «is_mac_roman» = false }
+
+-- the face that stands beside a refusal
+unfoldable pub emptyFont : FontInfo
+emptyFont =
+    record { attributes = defaultAttributes; axes = tabulate (λ i. noAxis) 16; «axis_count» = 0; «charmap_index» = noIndex }
+
+unfoldable pub refusedFont : ℕ → Checked
+refusedFont n = record { refusal = n; font = emptyFont }
+
+-- with the charmap index: "over 16 axes given by section 2" is refusal 23
+unfoldable pub withIndex : List ℕ → CharmapIndex → Checked
+withIndex font index =
+    cond (leb (axisCount (fvarOf font)) 16)
+    (record
+    { refusal = 0
+    ; font =
+        record
+        { attributes = readAttributes font
+        ; axes = axesOf (fvarOf font) (axisCount (fvarOf font))
+        ; «axis_count» = axisCount (fvarOf font)
+        ; «charmap_index» = index
+        }
+    })
+    (refusedFont 23)
+
+-- "no qualifying `cmap` record" is refusal 22
+unfoldable pub withCharmap : List ℕ → Charmap → Checked
+withCharmap font Missing = refusedFont 22
+withCharmap font (Index index) = withIndex font index
+
+-- "bad start or directory past file" is refusal 21
+unfoldable pub fromFontRef : List ℕ → Checked
+fromFontRef font = cond (directoryFits font) (withCharmap font (charmapIndex font)) (refusedFont 21)
