@@ -1,14 +1,14 @@
--- Laws of `first`: it is at most the number of things, what it finds has the property, and nothing before it has.
+-- Laws of `first` and `every`. Of `first`: it is at most the number of things, what it finds has the property, and nothing before it has.
 use Prim.Native.Nat.{ℕ, zero, suc, _+_, _≤_, _<_}
 use mathlib.Core.Path.{_≡_, refl, sym, _∙_, ap}
-use mathlib.Core.Bool.{Bool, true, false, cond}
-use mathlib.Core.Logic.{_⊎_, inl, inr}
+use mathlib.Core.Bool.{Bool, true, false, _&&_, cond}
+use mathlib.Core.Logic.{_⊎_, inl, inr, ⊎-elim}
 use native.Mathlib.Omega.{arith}
 use native.Mathlib.Decide.{le-ind}
 use native.Mathlib.Numerals.{add-one}
 use lib.Dec.{ltb}
 use borrow.Author.Tests.{lt-ltb, le-ltb, ltb-true, ltb-false}
-use Rattle.font.specs.First.{first}
+use Rattle.font.specs.First.{first, every}
 
 -- ---- for a loop that looks for it
 
@@ -83,3 +83,22 @@ keep-step p n h = simp (lt-ltb (first p n) n h)
 
 pub keep : (p : ℕ → Bool) (m n : ℕ) → m ≤ n → first p m < m → first p n ≡ first p m
 keep p m n l h = le-ind (λ k. first p k ≡ first p m) refl (λ k g e. keep-step p k (omega arith) ∙ e) n l
+
+-- ---- `every`, for a loop that stops at the first that fails
+
+pub every-start : (p : ℕ → Bool) → every p 0 ≡ true
+unfolding every
+every-start p = refl
+
+pub every-more : (p : ℕ → Bool) (i : ℕ) → every p i ≡ true → p i ≡ true → every p (i + 1) ≡ true
+unfolding every
+every-more p i h e = rw (add-one i) (simp (h, e))
+
+pub every-fails : (p : ℕ → Bool) (i n : ℕ) → i < n → p i ≡ false → false ≡ every p n
+unfolding every
+every-fails p i zero l e = absurd (omega arith)
+every-fails p i (suc n) l e = ⊎-elim (λ h. rw (← every-fails p i n h e)) (λ h. go (every p n) (ap p (sym h) ∙ e)) (below-or-last i n l)
+  where
+    go : (b : Bool) → p n ≡ false → false ≡ b && p n
+    go true q = sym q
+    go false q = refl

@@ -7,3 +7,4 @@ pub mod Tables
 pub mod Charmap
 pub mod Reading
 pub mod Font
+pub mod Overrides

@@ -1,6 +1,7 @@
 // Properties for specifying font matching attributes.
 ghost use mathlib.Core.Path.{_≡_};
-ghost use Rattle.font.specs.Attributes.{attributesOf};
+ghost use Rattle.font.specs.Attributes.{attributesOf, acceptedAngle, acceptedStyle, acceptedAttributes};
+use crate::single;
 
 // The angle of an oblique style, in degrees, or none stated.
 pub enum Angle {
@@ -64,5 +65,38 @@ impl Attributes {
             style,
             weight,
         }
+    }
+
+    // Whether its numbers are accepted: the ratio 0 to 16, the angle and the weight finite.
+    pub fn accepted(self) -> bool
+        ensures { λ r. ⌜ r ≡ acceptedAttributes self ⌝ }
+    {
+        let style = self.style;
+        if single::is_ratio(self.width.ratio) {
+            if style_accepted(style) {
+                return single::is_finite(self.weight.value);
+            }
+        }
+        false
+    }
+}
+
+// Whether the angle of a style, if it states one, is finite.
+pub fn style_accepted(style: FontStyle) -> bool
+    ensures { λ r. ⌜ r ≡ acceptedStyle style ⌝ }
+{
+    match style {
+        FontStyle::Oblique(angle) => angle_accepted(angle),
+        FontStyle::Normal => true,
+        FontStyle::Italic => true,
+    }
+}
+
+fn angle_accepted(angle: Angle) -> bool
+    ensures { λ r. ⌜ r ≡ acceptedAngle angle ⌝ }
+{
+    match angle {
+        Angle::Degrees(x) => single::is_finite(x),
+        Angle::Unstated => true,
     }
 }
