@@ -38,23 +38,23 @@ module _ (top : ℕ) (f : ℕ → ℕ) where
   pub best-new : (n c b : ℕ) → Best n c b → f n < c → Best (n + 1) (f n) n
   unfolding leastBelow
   best-new n c b h l =
-      record
-      { least = rw (add-one n) (omega (arith, h .least))
-      ; before = λ g. omega arith
-      ; first-of = λ g.
-          found (λ k. eqb (f k) (f n)) n (n + 1)
-          (none (λ k. eqb (f k) (f n)) n (λ k m. ne-eqb (f k) (f n) (λ e. omega (arith, at-most n k m, h .least))))
-          (eq-eqb (f n) (f n) refl)
-          (omega arith)
+      record {
+        least = rw (add-one n) (omega (arith, h .least));
+        before = λ g. omega arith;
+        first-of = λ g.
+            found (λ k. eqb (f k) (f n)) n (n + 1)
+            (none (λ k. eqb (f k) (f n)) n (λ k m. ne-eqb (f k) (f n) (λ e. omega (arith, at-most n k m, h .least))))
+            (eq-eqb (f n) (f n) refl)
+            (omega arith);
       }
 
   pub best-kept : (n c b : ℕ) → Best n c b → c ≤ f n → Best (n + 1) c b
   unfolding leastBelow
   best-kept n c b h l =
-      record
-      { least = rw (add-one n) (omega (arith, h .least))
-      ; before = λ g. omega (arith, h .before g)
-      ; first-of = λ g. h .first-of g ∙ sym (keep (λ k. eqb (f k) c) n (n + 1) (omega arith) (omega (arith, h .before g, h .first-of g)))
+      record {
+        least = rw (add-one n) (omega (arith, h .least));
+        before = λ g. omega (arith, h .before g);
+        first-of = λ g. h .first-of g ∙ sym (keep (λ k. eqb (f k) c) n (n + 1) (omega arith) (omega (arith, h .before g, h .first-of g)));
       }
 
   -- things past m whose values are no lower than the top change nothing

@@ -21,3 +21,5 @@ pub mod Tabulated
 pub mod Lookup
 pub mod Records
 pub mod Classes
+-- Section 3: overrides.
+pub mod Refusals

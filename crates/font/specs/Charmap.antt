@@ -48,10 +48,10 @@ unfoldable pub indexOf : ℕ → List ℕ → Charmap
 indexOf offset cmap =
     cond (ltb (bestClass cmap) 4)
     (Index
-    (record
-    { «subtable_offset» = offset + subtableOffset cmap (bestRecord cmap)
-    ; «is_symbol» = eqb (bestClass cmap) 2
-    ; «is_mac_roman» = eqb (bestClass cmap) 3
+    (record {
+      «subtable_offset» = offset + subtableOffset cmap (bestRecord cmap);
+      «is_symbol» = eqb (bestClass cmap) 2;
+      «is_mac_roman» = eqb (bestClass cmap) 3;
     }))
     Missing
 

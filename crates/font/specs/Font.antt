@@ -31,11 +31,11 @@ axisCount fvar =
 -- "A record holds tag, minimum, default, maximum (16.16), 4 further bytes. An axis keeps its three numbers as singles."
 unfoldable pub axisAt : List ℕ → ℕ → AxisInfo
 axisAt fvar i =
-    record
-    { tag = u32At fvar (u16At fvar 4 + 20 * i)
-    ; min = fixedToSingle (u32At fvar (u16At fvar 4 + 20 * i + 4))
-    ; default = fixedToSingle (u32At fvar (u16At fvar 4 + 20 * i + 8))
-    ; max = fixedToSingle (u32At fvar (u16At fvar 4 + 20 * i + 12))
+    record {
+      tag = u32At fvar (u16At fvar 4 + 20 * i);
+      min = fixedToSingle (u32At fvar (u16At fvar 4 + 20 * i + 4));
+      default = fixedToSingle (u32At fvar (u16At fvar 4 + 20 * i + 8));
+      max = fixedToSingle (u32At fvar (u16At fvar 4 + 20 * i + 12));
     }
 
 -- what stands in a face past its axes
@@ -61,15 +61,15 @@ refusedFont n = record { refusal = n; font = emptyFont }
 unfoldable pub withIndex : List ℕ → CharmapIndex → Checked
 withIndex font index =
     cond (leb (axisCount (fvarOf font)) 16)
-    (record
-    { refusal = 0
-    ; font =
-        record
-        { attributes = readAttributes font
-        ; axes = axesOf (fvarOf font) (axisCount (fvarOf font))
-        ; «axis_count» = axisCount (fvarOf font)
-        ; «charmap_index» = index
-        }
+    (record {
+      refusal = 0;
+      font =
+          record {
+            attributes = readAttributes font;
+            axes = axesOf (fvarOf font) (axisCount (fvarOf font));
+            «axis_count» = axisCount (fvarOf font);
+            «charmap_index» = index;
+          };
     })
     (refusedFont 23)
 

@@ -71,11 +71,11 @@ setDefaults axes n tags values (suc k) = setDefault (setDefaults axes n tags val
 
 unfoldable pub withOverride : FontInfo → FontInfoOverride → List ℕ → List Float → FontInfo
 withOverride f o tags values =
-    record
-    { attributes = overridden (f .attributes) o
-    ; axes = setDefaults (f .axes) (f .«axis_count») tags values (pairCount tags values)
-    ; «axis_count» = f .«axis_count»
-    ; «charmap_index» = f .«charmap_index»
+    record {
+      attributes = overridden (f .attributes) o;
+      axes = setDefaults (f .axes) (f .«axis_count») tags values (pairCount tags values);
+      «axis_count» = f .«axis_count»;
+      «charmap_index» = f .«charmap_index»;
     }
 
 -- ---- "`maybe_override_attributes` replaces only attributes that equal the defaults"

@@ -41,6 +41,7 @@ impl FontWidth {
 
 impl FontWeight {
     pub const NORMAL: FontWeight = FontWeight { value: 400.0 };
+
     pub const BOLD: FontWeight = FontWeight { value: 700.0 };
 
     pub fn new(value: f32) -> Self

@@ -76,7 +76,10 @@ fn record_class(cmap: &[u8], i: usize) -> u8
     if cmap.len() < offset + 2 {
         return 4;
     }
-    class_of(tables::u16_at(cmap, 4 + 8 * i), tables::u16_at(cmap, 6 + 8 * i))
+    class_of(
+        tables::u16_at(cmap, 4 + 8 * i),
+        tables::u16_at(cmap, 6 + 8 * i),
+    )
 }
 
 // The first record of the best class.

@@ -16,8 +16,11 @@ use crate::tables;
 
 // The tags of the tables that are read.
 const OS2: u32 = 0x4F53_2F32;
+
 const POST: u32 = 0x706F_7374;
+
 const HEAD: u32 = 0x6865_6164;
+
 const FVAR: u32 = 0x6676_6172;
 
 // The ratios of the width classes 0 to 8.

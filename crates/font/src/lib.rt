@@ -1,7 +1,7 @@
 // Font reading: single-precision numbers, OpenType tables, attributes, axes, the charmap index, and overrides.
-pub mod single;
 pub mod attributes;
-pub mod tables;
 pub mod charmap;
 pub mod font;
 pub mod overrides;
+pub mod single;
+pub mod tables;

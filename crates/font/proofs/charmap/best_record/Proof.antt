@@ -36,8 +36,8 @@ returns c = let at = c .before .before in
     let cmap = c .before .before .before .before .before .args .cmap .now in
     let f = recordClass cmap in
     let all =
-        best-done 4 f (c .before .before .before .u16-at .result) (at .loop .best .class) (at .loop .best .i)
-        (best-rest 4 f (at .loop .i) (c .before .before .before .u16-at .result) (at .loop .best .class) (at .loop .best .i) (at .loop .inv .0) (λ k g. omega (arith, past cmap k (omega arith))) (at .loop .inv .1)) in
+    best-done 4 f (c .before .before .before .u16-at .result) (at .loop .best .class) (at .loop .best .i)
+    (best-rest 4 f (at .loop .i) (c .before .before .before .u16-at .result) (at .loop .best .class) (at .loop .best .i) (at .loop .inv .0) (λ k g. omega (arith, past cmap k (omega arith))) (at .loop .inv .1)) in
     let told = rw (c .before .before .before .u16-at .ensures) at all in
     (told .0, told .1, omega arith)
 

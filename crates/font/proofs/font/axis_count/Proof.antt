@@ -37,13 +37,19 @@ add-if3 c = search needs
 
 returns-2 : tie.Need-returns-2
 unfolding axisCount present
-returns-2 c = (simp
-    (lt-ltb 0 (length (c .before .before .before .before .before .before .before .args .fvar .now)) (omega arith), sym (c .before .before .before .before .u16-at .ensures), eq-eqb _ _ (c .before .before .before .if2 .taken), sym (c .before .before .u16-at2 .ensures), sym (c .before .u16-at3 .ensures), le-leb _ _ (c .if3 .taken)), omega (arith, c .before .u16-at3 .ok))
+returns-2 c = (
+  simp
+      (lt-ltb 0 (length (c .before .before .before .before .before .before .before .args .fvar .now)) (omega arith), sym (c .before .before .before .before .u16-at .ensures), eq-eqb _ _ (c .before .before .before .if2 .taken), sym (c .before .before .u16-at2 .ensures), sym (c .before .u16-at3 .ensures), le-leb _ _ (c .if3 .taken)),
+  omega (arith, c .before .u16-at3 .ok),
+)
 
 returns-3 : tie.Need-returns-3
 unfolding axisCount present
-returns-3 c = (simp
-    (lt-ltb 0 (length (c .before .before .before .before .before .before .before .args .fvar .now)) (omega arith), sym (c .before .before .before .before .u16-at .ensures), eq-eqb _ _ (c .before .before .before .if2 .taken), sym (c .before .before .u16-at2 .ensures), sym (c .before .u16-at3 .ensures), lt-leb _ _ (c .if3 .left)), omega arith)
+returns-3 c = (
+  simp
+      (lt-ltb 0 (length (c .before .before .before .before .before .before .before .args .fvar .now)) (omega arith), sym (c .before .before .before .before .u16-at .ensures), eq-eqb _ _ (c .before .before .before .if2 .taken), sym (c .before .before .u16-at2 .ensures), sym (c .before .u16-at3 .ensures), lt-leb _ _ (c .if3 .left)),
+  omega arith,
+)
 
 returns-4 : tie.Need-returns-4
 unfolding axisCount present

@@ -1,3 +1,8 @@
+-- `font::overrides::set_default` meets its contract: each answer is that of the test that led to it.
+-- Assumes nothing.
+use mathlib.Core.Path.{sym}
+use borrow.Author.Tests.{lt-ltb, le-ltb}
+use Rattle.font.specs.Overrides.{setDefault, axisOf, withDefault}
 use borrow.Author.Needs.{needs}
 use Rattle.font.proofs.overrides.set_default.Statement.{statement}
 use Rattle.font.proofs.overrides.set_default.Tie as tie
@@ -18,10 +23,12 @@ array-set-from-set : tie.Need-array-set-from-set
 array-set-from-set c = search needs
 
 returns : tie.Need-returns
-returns c = ?
+unfolding setDefault axisOf withDefault
+returns c = simp (sym (c .before .before .first-axis .ensures), lt-ltb _ _ (c .before .if1 .taken))
 
 returns-2 : tie.Need-returns-2
-returns-2 c = ?
+unfolding setDefault axisOf withDefault
+returns-2 c = simp (sym (c .before .first-axis .ensures), le-ltb _ _ (c .if1 .left))
 
 pub set-default-spec : {M : Type 1} → statement M
 set-default-spec =

@@ -1,3 +1,9 @@
+-- `font::font::FontInfo::apply_override` meets its contract: each answer is that of the test that led to it.
+-- Assumes nothing.
+use mathlib.Core.Path.{sym, _∙_}
+use borrow.Author.Tests.{eq-eqb, ne-eqb}
+use Rattle.font.specs.Overrides.{applyOverride, answered, withOverride}
+use Rattle.font.proofs.Refusals.{within-limit}
 use borrow.Author.Needs.{needs}
 use Rattle.font.proofs.font.FontInfo.apply_override.Statement.{statement}
 use Rattle.font.proofs.font.FontInfo.apply_override.Tie as tie
@@ -12,13 +18,15 @@ override-attributes-requires : tie.Need-override-attributes-requires
 override-attributes-requires c κs = search needs
 
 set-defaults-requires : tie.Need-set-defaults-requires
-set-defaults-requires c κs = ?
+set-defaults-requires c κs = within-limit _ _ (sym (c .before .before .before .refusal-of .ensures) ∙ c .before .before .if1 .taken)
 
 returns : tie.Need-returns
-returns c = ?
+unfolding applyOverride answered withOverride
+returns c = simp (sym (c .before .before .before .before .before .before .override-accepted .ensures), sym (c .before .before .before .before .before .refusal-of .ensures), eq-eqb _ _ (c .before .before .before .before .if1 .taken), sym (c .before .before .override-attributes .ensures), sym (c .before .set-defaults .ensures))
 
 returns-2 : tie.Need-returns-2
-returns-2 c = ?
+unfolding applyOverride answered withOverride
+returns-2 c = simp (sym (c .before .before .override-accepted .ensures), sym (c .before .refusal-of .ensures), ne-eqb _ _ (c .if1 .left))
 
 pub apply-override-spec : {M : Type 1} → statement M
 apply-override-spec =
