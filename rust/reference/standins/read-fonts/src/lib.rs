@@ -1,0 +1,192 @@
+//! Stand-in for `read-fonts`: font tables with the meanings of section 2 of 01.
+//!
+//! - The first record with a tag counts.
+//! - A table that reaches past the file, or is shorter than needed, is absent.
+//! - Offsets and lengths are plain numbers; no sum wraps.
+
+pub mod tables;
+pub mod types;
+
+use tables::{cmap::Cmap, fvar::Fvar, head::Head, os2::Os2, post::Post};
+use types::Tag;
+
+/// Bytes of a font or of a part of it; every read is checked.
+#[derive(Copy, Clone, Debug)]
+pub struct FontData<'a>(&'a [u8]);
+
+impl<'a> FontData<'a> {
+    pub fn new(bytes: &'a [u8]) -> Self {
+        Self(bytes)
+    }
+
+    pub fn as_bytes(&self) -> &'a [u8] {
+        self.0
+    }
+
+    pub fn len(&self) -> usize {
+        self.0.len()
+    }
+
+    pub fn is_empty(&self) -> bool {
+        self.0.is_empty()
+    }
+
+    /// The bytes from `offset` on, `length` of them, if all lie inside.
+    pub fn part(&self, offset: u64, length: u64) -> Option<FontData<'a>> {
+        let end = offset + length;
+        if end > self.0.len() as u64 {
+            return None;
+        }
+        Some(Self(&self.0[offset as usize..end as usize]))
+    }
+
+    pub fn u16_at(&self, at: u64) -> Option<u16> {
+        let b = self.part(at, 2)?.0;
+        Some(u16::from_be_bytes([b[0], b[1]]))
+    }
+
+    pub fn u32_at(&self, at: u64) -> Option<u32> {
+        let b = self.part(at, 4)?.0;
+        Some(u32::from_be_bytes([b[0], b[1], b[2], b[3]]))
+    }
+}
+
+/// Why something could not be read. The original only asks whether.
+#[derive(Copy, Clone, PartialEq, Eq, Debug)]
+pub enum ReadError {
+    /// The file is no font of 01: bad start or directory past the file.
+    BadFont,
+    /// The table is absent as 01 understands it.
+    Absent,
+    /// A part that 01 gives no meaning to.
+    OutOfScope,
+}
+
+/// Something read from the start of some bytes.
+pub trait FontRead<'a>: Sized {
+    fn read(data: FontData<'a>) -> Result<Self, ReadError>;
+}
+
+/// A table found by its tag.
+pub trait TopLevelTable {
+    const TAG: Tag;
+}
+
+/// One record of the table directory.
+#[derive(Copy, Clone, Debug)]
+pub struct TableRecord {
+    tag: Tag,
+    offset: u32,
+    length: u32,
+}
+
+impl TableRecord {
+    pub fn tag(&self) -> Tag {
+        self.tag
+    }
+
+    pub fn offset(&self) -> u32 {
+        self.offset
+    }
+
+    pub fn length(&self) -> u32 {
+        self.length
+    }
+}
+
+#[derive(Clone, Debug)]
+pub struct TableDirectory(Vec<TableRecord>);
+
+impl TableDirectory {
+    pub fn table_records(&self) -> &[TableRecord] {
+        &self.0
+    }
+}
+
+/// A font file whose directory has been read.
+#[derive(Clone, Debug)]
+pub struct FontRef<'a> {
+    data: FontData<'a>,
+    directory: TableDirectory,
+}
+
+impl<'a> FontRef<'a> {
+    /// Reads the header and the directory. Only number 0: there are no collections.
+    pub fn from_index(bytes: &'a [u8], index: u32) -> Result<Self, ReadError> {
+        if index != 0 {
+            return Err(ReadError::BadFont);
+        }
+        let data = FontData::new(bytes);
+        let directory = directory(data).ok_or(ReadError::BadFont)?;
+        Ok(Self { data, directory })
+    }
+
+    pub fn table_directory(&self) -> &TableDirectory {
+        &self.directory
+    }
+
+    /// The bytes of the first table with the tag, if it lies in the file and
+    /// has at least `needed` bytes.
+    fn table(&self, tag: Tag, needed: u64) -> Result<FontData<'a>, ReadError> {
+        let record = self.directory.0.iter().find(|record| record.tag == tag);
+        let found =
+            record.and_then(|record| self.data.part(record.offset as u64, record.length as u64));
+        match found {
+            Some(table) if table.len() as u64 >= needed => Ok(table),
+            _ => Err(ReadError::Absent),
+        }
+    }
+}
+
+fn directory(data: FontData<'_>) -> Option<TableDirectory> {
+    let header = data.part(0, 12)?;
+    let start = header.u32_at(0)?.to_be_bytes();
+    if ![[0, 1, 0, 0], *b"OTTO", *b"true"].contains(&start) {
+        return None;
+    }
+    let count = header.u16_at(4)? as u64;
+    data.part(12, 16 * count)?;
+    let records = (0..count).map(|i| {
+        let record = data.part(12 + 16 * i, 16)?;
+        Some(TableRecord {
+            tag: Tag::from_u32(record.u32_at(0)?),
+            offset: record.u32_at(8)?,
+            length: record.u32_at(12)?,
+        })
+    });
+    records.collect::<Option<Vec<_>>>().map(TableDirectory)
+}
+
+/// The tables that the original asks for.
+pub trait TableProvider<'a> {
+    fn cmap(&self) -> Result<Cmap<'a>, ReadError>;
+    fn fvar(&self) -> Result<Fvar<'a>, ReadError>;
+    fn head(&self) -> Result<Head<'a>, ReadError>;
+    fn os2(&self) -> Result<Os2<'a>, ReadError>;
+    fn post(&self) -> Result<Post<'a>, ReadError>;
+}
+
+impl<'a> TableProvider<'a> for FontRef<'a> {
+    fn cmap(&self) -> Result<Cmap<'a>, ReadError> {
+        self.table(Cmap::TAG, 4).map(Cmap::new)
+    }
+
+    fn fvar(&self) -> Result<Fvar<'a>, ReadError> {
+        self.table(Fvar::TAG, 16).map(Fvar::new)
+    }
+
+    fn head(&self) -> Result<Head<'a>, ReadError> {
+        self.table(Head::TAG, 54).map(Head::new)
+    }
+
+    fn os2(&self) -> Result<Os2<'a>, ReadError> {
+        self.table(Os2::TAG, 78).map(Os2::new)
+    }
+
+    fn post(&self) -> Result<Post<'a>, ReadError> {
+        self.table(Post::TAG, 32).map(Post::new)
+    }
+}
+
+#[cfg(test)]
+mod tests;
