@@ -152,10 +152,10 @@ fn axes_accepted(axes: [AxisInfo; 16], count: usize) -> bool
     requires { ⌜ count ≤ 16 ⌝ }
     ensures { λ r. ⌜ r ≡ every (λ i. acceptedAxis (axisOf axes i)) count ⌝ }
 {
-    let mut i: usize = 0;
-    while i < count {
-        if axis_accepted(axes[i]) {
-            i += 1;
+    let mut k: usize = 0;
+    while k < count {
+        if axis_accepted(axes[k]) {
+            k += 1;
         } else {
             return false;
         }
@@ -168,10 +168,10 @@ fn values_accepted(values: &[f32], count: usize) -> bool
     requires { ⌜ count ≤ length (now values) ⌝ }
     ensures { λ r. ⌜ r ≡ every (λ i. finite (getD (now (values .entry)) i nan)) count ⌝ }
 {
-    let mut i: usize = 0;
-    while i < count {
-        if single::is_finite(values[i]) {
-            i += 1;
+    let mut k: usize = 0;
+    while k < count {
+        if single::is_finite(values[k]) {
+            k += 1;
         } else {
             return false;
         }

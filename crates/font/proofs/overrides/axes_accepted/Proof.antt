@@ -1,4 +1,4 @@
--- `font::overrides::axes_accepted` meets its contract. The invariant: every one before i is accepted.
+-- `font::overrides::axes_accepted` meets its contract. The invariant: every one before k is accepted.
 -- Assumes nothing.
 use Prim.Native.Nat.{ℕ, _≤_, _-_}
 use mathlib.Core.Path.{_≡_, sym, _∙_}
@@ -12,10 +12,10 @@ use Rattle.font.proofs.overrides.axes_accepted.Statement.{statement}
 use Rattle.font.proofs.overrides.axes_accepted.Tie as tie
 
 abbrev Inv-loop : tie.InvT-loop
-Inv-loop count axes i₀ i = (i ≤ count) × (every (λ k. acceptedAxis (axisOf axes k)) i ≡ true)
+Inv-loop count axes k₀ k = (k ≤ count) × (every (λ j. acceptedAxis (axisOf axes j)) k ≡ true)
 
 abbrev μ-loop : tie.MeasureT-loop
-μ-loop count axes i₀ i = count - i
+μ-loop count axes k₀ k = count - k
 
 loop-holds : tie.Need-loop-holds Inv-loop μ-loop
 loop-holds c = (omega arith, every-start _)
@@ -29,8 +29,8 @@ array-copy-out-axis-accepted c = search needs
 axis-accepted-requires : tie.Need-axis-accepted-requires Inv-loop μ-loop
 axis-accepted-requires c κs = search needs
 
-add-i : tie.Need-add-i Inv-loop μ-loop
-add-i c = search needs
+add-k : tie.Need-add-k Inv-loop μ-loop
+add-k c = search needs
 
 loop-less : tie.Need-loop-less Inv-loop μ-loop
 loop-less c = search needs
@@ -45,7 +45,7 @@ returns c = every-fails _ _ _ (c .before .before .before .loop-test .taken) (sym
 
 returns-2 : tie.Need-returns-2 Inv-loop μ-loop
 unfolding axisOf
-returns-2 c = let end : c .before .loop .i ≡ c .before .before .args .count = omega arith in
+returns-2 c = let end : c .before .loop .k ≡ c .before .before .args .count = omega arith in
     sym (rw (← end) (c .before .loop .inv .1))
 
 pub axes-accepted-spec : {M : Type 1} → statement M
@@ -58,7 +58,7 @@ axes-accepted-spec =
     mul-axis-accepted
     array-copy-out-axis-accepted
     axis-accepted-requires
-    add-i
+    add-k
     loop-less
     loop-again
     returns

@@ -1,4 +1,4 @@
--- `font::overrides::values_accepted` meets its contract. The invariant: every one before i is accepted.
+-- `font::overrides::values_accepted` meets its contract. The invariant: every one before k is accepted.
 -- Assumes nothing.
 use Prim.Native.Nat.{ℕ, _≤_, _-_}
 use mathlib.Core.Path.{_≡_, sym, _∙_}
@@ -14,10 +14,10 @@ use Rattle.font.proofs.overrides.values_accepted.Statement.{statement}
 use Rattle.font.proofs.overrides.values_accepted.Tie as tie
 
 abbrev Inv-loop : tie.InvT-loop
-Inv-loop values count i₀ i = (i ≤ count) × (every (λ k. finite (getD values k nan)) i ≡ true)
+Inv-loop values count k₀ k = (k ≤ count) × (every (λ j. finite (getD values j nan)) k ≡ true)
 
 abbrev μ-loop : tie.MeasureT-loop
-μ-loop values count i₀ i = count - i
+μ-loop values count k₀ k = count - k
 
 loop-holds : tie.Need-loop-holds Inv-loop μ-loop
 loop-holds c = (omega arith, every-start _)
@@ -31,8 +31,8 @@ shared-slice-read-is-finite c = search needs
 is-finite-requires : tie.Need-is-finite-requires Inv-loop μ-loop
 is-finite-requires c κs = search needs
 
-add-i : tie.Need-add-i Inv-loop μ-loop
-add-i c = search needs
+add-k : tie.Need-add-k Inv-loop μ-loop
+add-k c = search needs
 
 loop-less : tie.Need-loop-less Inv-loop μ-loop
 loop-less c = search needs
@@ -44,7 +44,7 @@ returns : tie.Need-returns Inv-loop μ-loop
 returns c = every-fails _ _ _ (c .before .before .before .loop-test .taken) (sym (c .before .is-finite .ensures) ∙ c .if1 .left)
 
 returns-2 : tie.Need-returns-2 Inv-loop μ-loop
-returns-2 c = let end : c .before .loop .i ≡ c .before .before .before .args .count = omega arith in
+returns-2 c = let end : c .before .loop .k ≡ c .before .before .before .args .count = omega arith in
     sym (rw (← end) (c .before .loop .inv .1))
 
 pub values-accepted-spec : {M : Type 1} → statement M
@@ -57,7 +57,7 @@ values-accepted-spec =
     mul-is-finite
     shared-slice-read-is-finite
     is-finite-requires
-    add-i
+    add-k
     loop-less
     loop-again
     returns
