@@ -128,13 +128,13 @@ fn print_checked(checked: Checked) {
 fn print_list(list: &[u8]) {
     let mut at: usize = 0;
     while at < list.len() {
-        let length = tables::u32_at(list, at) as usize;
         let start = at + 4;
-        if list.len() < start + length {
+        let end = start + tables::u32_at(list, at) as usize;
+        if list.len() < end {
             return;
         }
-        print_checked(FontInfo::from_font_ref(&list[start..start + length]));
-        at = start + length;
+        print_checked(FontInfo::from_font_ref(&list[start..end]));
+        at = end;
     }
 }
 
