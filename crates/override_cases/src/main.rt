@@ -44,6 +44,19 @@ const OWN: Attributes = Attributes {
     weight: FontWeight { value: 300.0 },
 };
 
+const MINUS_ZEROS: Attributes = Attributes {
+    width: FontWidth { ratio: -0.0 },
+    style: FontStyle::Oblique(Angle::Degrees(-0.0)),
+    weight: FontWeight { value: -0.0 },
+};
+
+// What most cases of `maybe_override_attributes` give.
+const GIVEN: Attributes = Attributes {
+    width: FontWidth { ratio: 0.5 },
+    style: FontStyle::Oblique(Angle::Degrees(10.0)),
+    weight: FontWeight { value: 700.0 },
+};
+
 const KEEP: FontInfoOverride = FontInfoOverride {
     width: WidthOverride::Keep,
     style: StyleOverride::Keep,
@@ -156,6 +169,10 @@ fn axis(tag: u32, min: f32, default: f32, max: f32) -> AxisInfo {
     }
 }
 
+fn slant(min: f32, default: f32, max: f32) -> AxisInfo {
+    axis(SLNT, min, default, max)
+}
+
 // A face whose array of axes begins with wght, wdth, wght and the one given.
 fn face(attributes: Attributes, fourth: AxisInfo, axis_count: usize) -> FontInfo {
     let mut axes = [AxisInfo::NONE; 16];
@@ -172,8 +189,21 @@ fn face(attributes: Attributes, fourth: AxisInfo, axis_count: usize) -> FontInfo
     }
 }
 
-fn attributes(ratio: f32, style: FontStyle, weight: f32) -> Attributes {
-    Attributes::new(FontWidth::new(ratio), style, FontWeight::new(weight))
+// Attributes with a style of no slope, and with a style alone.
+fn upright(ratio: f32, weight: f32) -> Attributes {
+    Attributes::new(
+        FontWidth::new(ratio),
+        FontStyle::Normal,
+        FontWeight::new(weight),
+    )
+}
+
+fn styled(style: FontStyle) -> Attributes {
+    Attributes::new(FontWidth::NORMAL, style, FontWeight::NORMAL)
+}
+
+fn unstated() -> FontStyle {
+    FontStyle::Oblique(Angle::Unstated)
 }
 
 fn degrees(angle: f32) -> FontStyle {
@@ -256,16 +286,16 @@ fn maybe(name: &[u8], attributes: Attributes, given: Attributes) {
 
 // The cases, in the order of the script.
 
-fn set_cases() {
+fn set_one() {
     set(b"nothing", KEEP);
     set(b"width", width(1.25));
     set(b"style normal", style(FontStyle::Normal));
-    set(
-        b"style unstated",
-        style(FontStyle::Oblique(Angle::Unstated)),
-    );
+    set(b"style unstated", style(unstated()));
     set(b"style stated", style(degrees(-14.0)));
     set(b"weight", weight(650.5));
+}
+
+fn set_all() {
     set(b"all", all(2.0, degrees(20.0), 900.0));
     set(b"defaults", all(1.0, FontStyle::Normal, 400.0));
     set(b"zeros", all(0.0, degrees(0.0), 0.0));
@@ -273,205 +303,138 @@ fn set_cases() {
     set(b"below zero", all(0.5, degrees(-90.0), -1.5));
 }
 
-fn set_refusals() {
+fn set_ratio() {
     set(b"ratio 16", width(16.0));
     set(b"ratio over 16", width(16.000002));
     set(b"ratio below 0", width(-0.001));
     set(b"ratio NaN", width(nan()));
     set(b"ratio infinite", width(infinity()));
+}
+
+fn set_not_finite() {
     set(b"angle NaN", style(degrees(nan())));
     set(b"angle infinite", style(degrees(-infinity())));
     set(b"weight NaN", weight(nan()));
     set(b"weight infinite", weight(infinity()));
 }
 
-fn pair_cases() {
+fn pairs_found() {
     pairs(b"one", 3, &[WDTH], &[75.0]);
     pairs(b"later wins", 3, &[WDTH, WGHT, WDTH], &[75.0, 650.0, 125.0]);
     pairs(b"repeated axis", 3, &[WGHT], &[650.0]);
+    pairs(b"last of the count", 4, &[SLNT], &[-10.0]);
+}
+
+fn pairs_not_found() {
     pairs(b"unknown tag", 3, &[OPSZ], &[12.0]);
     pairs(b"tag past the count", 3, &[SLNT], &[-10.0]);
-    pairs(b"tag within the count", 4, &[SLNT], &[-10.0]);
-    pairs(b"above the maximum", 3, &[WDTH], &[1000.0]);
-    pairs(b"below the minimum", 3, &[WDTH], &[-5.0]);
-    pairs(b"minus zero", 3, &[WDTH], &[-0.0]);
-    pairs(b"more tags", 3, &[WDTH, WGHT], &[75.0]);
-    pairs(b"more values", 3, &[WDTH], &[75.0, 650.0]);
     pairs(b"no axes", 0, &[WGHT], &[650.0]);
 }
 
-fn pair_refusals() {
-    pairs(b"16 axes", 16, &[0], &[7.0]);
-    pairs(b"17 axes", 17, &[WGHT], &[650.0]);
-    pairs(b"17 axes, NaN", 17, &[WGHT], &[nan()]);
-    pairs(b"NaN", 3, &[WDTH], &[nan()]);
-    pairs(b"infinite", 3, &[WDTH], &[infinity()]);
-    pairs(b"NaN at an unknown tag", 3, &[WDTH, OPSZ], &[75.0, nan()]);
+fn pairs_not_clamped() {
+    pairs(b"above the maximum", 3, &[WDTH], &[1000.0]);
+    pairs(b"below the minimum", 3, &[WDTH], &[-5.0]);
+    pairs(b"minus zero", 3, &[WDTH], &[-0.0]);
+}
+
+fn pairs_uneven() {
+    pairs(b"more tags", 3, &[WDTH, WGHT], &[75.0]);
+    pairs(b"more values", 3, &[WDTH], &[75.0, 650.0]);
     pairs(b"NaN past the tags", 3, &[WDTH], &[75.0, nan()]);
 }
 
-fn own_cases() {
+fn pairs_counts() {
+    pairs(b"16 axes", 16, &[0], &[7.0]);
+    pairs(b"17 axes", 17, &[WGHT], &[650.0]);
+    pairs(b"17 axes, NaN", 17, &[WGHT], &[nan()]);
+}
+
+fn pairs_not_finite() {
+    pairs(b"NaN", 3, &[WDTH], &[nan()]);
+    pairs(b"infinite", 3, &[WDTH], &[infinity()]);
+    pairs(b"NaN at an unknown tag", 3, &[WDTH, OPSZ], &[75.0, nan()]);
+}
+
+fn own_accepted() {
     own(b"no defaults", OWN, SLANT, 4);
     own(b"defaults", Attributes::DEFAULT, SLANT, 4);
     own(b"16 axes", OWN, SLANT, 16);
+    own(b"NaN past the count", OWN, slant(nan(), nan(), nan()), 3);
+}
+
+fn own_counts() {
     own(b"17 axes", OWN, SLANT, 17);
-    own(
-        b"17 axes, ratio NaN",
-        attributes(nan(), FontStyle::Normal, 400.0),
-        SLANT,
-        17,
-    );
-    own(
-        b"17 axes, minimum NaN",
-        OWN,
-        axis(SLNT, nan(), 0.0, 15.0),
-        17,
-    );
-    own(b"minimum NaN", OWN, axis(SLNT, nan(), 0.0, 15.0), 4);
-    own(
-        b"default infinite",
-        OWN,
-        axis(SLNT, -15.0, infinity(), 15.0),
-        4,
-    );
-    own(
-        b"maximum infinite",
-        OWN,
-        axis(SLNT, -15.0, 0.0, -infinity()),
-        4,
-    );
-    own(
-        b"NaN past the count",
-        OWN,
-        axis(SLNT, nan(), nan(), nan()),
-        3,
-    );
+    own(b"17 axes, ratio NaN", upright(nan(), 400.0), SLANT, 17);
+    own(b"17 axes, minimum NaN", OWN, slant(nan(), 0.0, 15.0), 17);
 }
 
-fn own_refusals() {
-    own(
-        b"ratio NaN",
-        attributes(nan(), FontStyle::Normal, 400.0),
-        SLANT,
-        3,
-    );
-    own(
-        b"ratio infinite",
-        attributes(infinity(), FontStyle::Normal, 400.0),
-        SLANT,
-        3,
-    );
-    own(
-        b"ratio over 16",
-        attributes(16.000002, FontStyle::Normal, 400.0),
-        SLANT,
-        3,
-    );
-    own(
-        b"angle NaN",
-        attributes(1.0, degrees(nan()), 400.0),
-        SLANT,
-        3,
-    );
-    own(
-        b"angle infinite",
-        attributes(1.0, degrees(infinity()), 400.0),
-        SLANT,
-        3,
-    );
-    own(
-        b"weight NaN",
-        attributes(1.0, FontStyle::Normal, nan()),
-        SLANT,
-        3,
-    );
-    own(
-        b"weight infinite",
-        attributes(1.0, FontStyle::Normal, -infinity()),
-        SLANT,
-        3,
-    );
+fn own_axes() {
+    own(b"minimum NaN", OWN, slant(nan(), 0.0, 15.0), 4);
+    own(b"default infinite", OWN, slant(-15.0, infinity(), 15.0), 4);
+    own(b"maximum infinite", OWN, slant(-15.0, 0.0, -infinity()), 4);
 }
 
-// What the next cases give.
-const GIVEN: Attributes = Attributes {
-    width: FontWidth { ratio: 0.5 },
-    style: FontStyle::Oblique(Angle::Degrees(10.0)),
-    weight: FontWeight { value: 700.0 },
-};
+fn own_ratio() {
+    own(b"ratio NaN", upright(nan(), 400.0), SLANT, 3);
+    own(b"ratio infinite", upright(infinity(), 400.0), SLANT, 3);
+    own(b"ratio over 16", upright(16.000002, 400.0), SLANT, 3);
+}
 
-fn maybe_cases() {
+fn own_not_finite() {
+    own(b"angle NaN", styled(degrees(nan())), SLANT, 3);
+    own(b"angle infinite", styled(degrees(infinity())), SLANT, 3);
+    own(b"weight NaN", upright(1.0, nan()), SLANT, 3);
+    own(b"weight infinite", upright(1.0, -infinity()), SLANT, 3);
+}
+
+fn maybe_each() {
     maybe(b"all are defaults", Attributes::DEFAULT, GIVEN);
     maybe(b"none is a default", OWN, GIVEN);
-    maybe(
-        b"width alone",
-        attributes(1.0, FontStyle::Italic, 300.0),
-        GIVEN,
-    );
-    maybe(
-        b"style alone",
-        attributes(0.75, FontStyle::Normal, 300.0),
-        GIVEN,
-    );
-    maybe(
-        b"weight alone",
-        attributes(0.75, FontStyle::Italic, 400.0),
-        GIVEN,
-    );
-    maybe(
-        b"beside the defaults",
-        attributes(1.0000001, degrees(0.0), 400.00003),
-        GIVEN,
-    );
-    maybe(
-        b"unstated",
-        attributes(1.0, FontStyle::Oblique(Angle::Unstated), 400.0),
-        GIVEN,
-    );
-    maybe(b"minus zeros", attributes(-0.0, degrees(-0.0), -0.0), GIVEN);
+    maybe(b"style alone", upright(0.75, 300.0), GIVEN);
+    maybe(b"style and weight", upright(0.75, 400.0), GIVEN);
+    maybe(b"width and style", upright(1.0, 300.0), GIVEN);
+    maybe(b"width and weight", styled(FontStyle::Italic), GIVEN);
 }
 
-fn given_cases() {
+fn maybe_near() {
+    maybe(b"beside the defaults", upright(1.0000001, 400.00003), GIVEN);
+    maybe(b"unstated", styled(unstated()), GIVEN);
+    maybe(b"stated 0", styled(degrees(0.0)), GIVEN);
+    maybe(b"minus zeros", MINUS_ZEROS, GIVEN);
+}
+
+fn maybe_given() {
     maybe(b"given defaults", OWN, Attributes::DEFAULT);
-    maybe(
-        b"given unstated",
-        Attributes::DEFAULT,
-        attributes(16.0, FontStyle::Oblique(Angle::Unstated), 1.0),
-    );
-    maybe(
-        b"given minus zeros",
-        Attributes::DEFAULT,
-        attributes(-0.0, degrees(-0.0), -0.0),
-    );
-    maybe(
-        b"given ratio NaN",
-        OWN,
-        attributes(nan(), FontStyle::Normal, 400.0),
-    );
-    maybe(
-        b"given ratio over 16",
-        OWN,
-        attributes(16.000002, FontStyle::Normal, 400.0),
-    );
-    maybe(
-        b"given angle NaN",
-        OWN,
-        attributes(1.0, degrees(nan()), 400.0),
-    );
-    maybe(
-        b"given weight infinite",
-        OWN,
-        attributes(1.0, FontStyle::Normal, infinity()),
-    );
+    maybe(b"given unstated", Attributes::DEFAULT, styled(unstated()));
+    maybe(b"given minus zeros", Attributes::DEFAULT, MINUS_ZEROS);
+    maybe(b"given ratio 16", Attributes::DEFAULT, upright(16.0, 1.0));
+}
+
+fn maybe_refused() {
+    maybe(b"given ratio NaN", OWN, upright(nan(), 400.0));
+    maybe(b"given ratio over 16", OWN, upright(16.000002, 400.0));
+    maybe(b"given angle NaN", OWN, styled(degrees(nan())));
+    maybe(b"given weight infinite", OWN, upright(1.0, infinity()));
 }
 
 fn main() {
-    set_cases();
-    set_refusals();
-    pair_cases();
-    pair_refusals();
-    own_cases();
-    own_refusals();
-    maybe_cases();
-    given_cases();
+    set_one();
+    set_all();
+    set_ratio();
+    set_not_finite();
+    pairs_found();
+    pairs_not_found();
+    pairs_not_clamped();
+    pairs_uneven();
+    pairs_counts();
+    pairs_not_finite();
+    own_accepted();
+    own_counts();
+    own_axes();
+    own_ratio();
+    own_not_finite();
+    maybe_each();
+    maybe_near();
+    maybe_given();
+    maybe_refused();
 }
