@@ -138,6 +138,7 @@ fn print_list(list: &[u8]) {
     }
 }
 
+// A list has at most 262,144 bytes: what lies past them is not read.
 fn main() {
     let mut space = [0u8; 262144];
     let n = io::read_full(STDIN_FILENO, &mut space);

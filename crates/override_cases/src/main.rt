@@ -189,7 +189,7 @@ fn face(attributes: Attributes, fourth: AxisInfo, axis_count: usize) -> FontInfo
     }
 }
 
-// Attributes with a style of no slope, and with a style alone.
+// Attributes of the style normal.
 fn upright(ratio: f32, weight: f32) -> Attributes {
     Attributes::new(
         FontWidth::new(ratio),
@@ -198,6 +198,7 @@ fn upright(ratio: f32, weight: f32) -> Attributes {
     )
 }
 
+// The default attributes but for the style.
 fn styled(style: FontStyle) -> Attributes {
     Attributes::new(FontWidth::NORMAL, style, FontWeight::NORMAL)
 }
