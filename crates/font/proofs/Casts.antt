@@ -10,21 +10,21 @@ use lib.IntN.{ℤ, pos, negℤ}
 use lib.Ieee.{Float, nan, inf, fin, up, down, lt, toUnsigned, toSigned}
 use borrow.Author.Tests.{ltb-true, ltb-false}
 use Rattle.font.specs.Single.{wholeOf}
-use Rattle.font.proofs.Steps.{negative}
+use Rattle.font.specs.Nearest.{negative}
 
 abbrev pub plus-zero : Float
 plus-zero = fin false 0 (pos 0)
 
 -- what is below 0 is negative, and what is not is either not negative or -0, whose whole part is 0
 below-zero : (x : Float) → lt x plus-zero ≡ true → negative x ≡ true
-unfolding lt negative
+unfolding lt
 below-zero nan h = h
 below-zero (inf s) h = h
 below-zero (fin true m e) h = refl
 below-zero (fin false m e) h = absurd (omega (arith, ltb-true (m * up e * 1) (0 * down e) h, zero-mul (down e)))
 
 not-below-zero : (x : Float) → lt x plus-zero ≡ false → (negative x ≡ false) ⊎ (wholeOf x ≡ 0)
-unfolding lt negative wholeOf
+unfolding lt wholeOf
 not-below-zero nan h = inl refl
 not-below-zero (inf s) h = inl h
 not-below-zero (fin false m e) h = inl refl
@@ -35,7 +35,7 @@ not-below-zero (fin true m e) h =
 -- ---- to an unsigned integer of 32 bits
 
 unsigned : (x : Float) → toUnsigned 32 x ≡ cond (negative x) 0 (wholeOf x)
-unfolding toUnsigned negative wholeOf
+unfolding toUnsigned wholeOf
 unsigned nan = refl
 unsigned (inf s) = refl
 unsigned (fin s m e) = refl
@@ -58,7 +58,7 @@ abbrev held : Bool → ℕ → ℤ
 held s w = cond s (negℤ (pos (min w (2 ^ 7)))) (pos (min w (2 ^ 7 - 1)))
 
 signed : (x : Float) → toSigned 7 x ≡ held (negative x) (wholeOf x)
-unfolding toSigned negative wholeOf
+unfolding toSigned wholeOf
 signed nan = refl
 signed (inf true) = refl
 signed (inf false) = refl

@@ -10,7 +10,8 @@ use lib.Ieee.{Float, nan, inf, fin, binary32, up, down, fits, isNan, below, leve
 use lib.Ieee.Scale.{finite}
 use lib.Ieee.Fits.{eq→eqb, down-pos}
 use borrow.Author.Tests.{lt-ltb, le-ltb, ne-eqb}
-use Rattle.font.proofs.Steps.{steps, negative, Value, value-of}
+use Rattle.font.specs.Nearest.{negative}
+use Rattle.font.proofs.Steps.{steps, Value, value-of}
 
 -- ---- tests that agree
 
@@ -122,7 +123,7 @@ unfolding isNan
 number-of-finite (fin s m e) h f = record { no-nan = tt; held = f }
 
 pub lt-in-steps : (x y : Float) → Number x → Number y → lt x y ≡ below (negative x) (steps x) (negative y) (steps y)
-unfolding isNan lt steps negative
+unfolding isNan lt steps
 lt-in-steps nan y X Y = absurd (X .no-nan)
 lt-in-steps (inf s) nan X Y = absurd (Y .no-nan)
 lt-in-steps (inf s) (inf t) X Y = inf-inf-below s t
@@ -132,7 +133,7 @@ lt-in-steps (fin s m e) (inf t) X Y = below-inf s t (steps (fin s m e)) (value-o
 lt-in-steps (fin s m e) (fin t n d) X Y = below-in-steps (value-of s m e (X .held)) (value-of t n d (Y .held)) s t
 
 pub eq-in-steps : (x y : Float) → Number x → Number y → eq x y ≡ level (negative x) (steps x) (negative y) (steps y)
-unfolding isNan eq steps negative
+unfolding isNan eq steps
 eq-in-steps nan y X Y = absurd (X .no-nan)
 eq-in-steps (inf s) nan X Y = absurd (Y .no-nan)
 eq-in-steps (inf s) (inf t) X Y = inf-inf-level s t

@@ -10,6 +10,14 @@ use lib.Dec.{ltb}
 use borrow.Author.Tests.{lt-ltb, le-ltb, ltb-true, ltb-false}
 use Rattle.font.specs.First.{first, every}
 
+-- below n + 1 is below n, or n
+pub below-or-last : (k n : ℕ) → k < suc n → (k < n) ⊎ (k ≡ n)
+below-or-last k n l = go (ltb k n) refl
+  where
+    go : (b : Bool) → ltb k n ≡ b → (k < n) ⊎ (k ≡ n)
+    go true t = inl (ltb-true k n t)
+    go false t = inr (omega (arith, ltb-false k n t))
+
 -- ---- for a loop that looks for it
 
 -- none among the first 0
@@ -61,20 +69,30 @@ holds p (suc n) l = go (ltb (first p n) n) (p n) refl refl (holds p n) l
     go false true t e back l = e
     go false false t e back l = absurd (omega arith)
 
--- ---- for a loop that goes on after it has found one
-
--- below n + 1 is below n, or n
-pub below-or-last : (k n : ℕ) → k < suc n → (k < n) ⊎ (k ≡ n)
-below-or-last k n l = go (ltb k n) refl
+-- nothing before it has the property
+pub before : (p : ℕ → Bool) (n k : ℕ) → k < first p n → p k ≡ false
+unfolding first
+before p zero k l = absurd (omega arith)
+before p (suc n) k l = go (ltb (first p n) n) (p n) refl refl (before p n k) l
   where
-    go : (b : Bool) → ltb k n ≡ b → (k < n) ⊎ (k ≡ n)
-    go true t = inl (ltb-true k n t)
-    go false t = inr (omega (arith, ltb-false k n t))
+    go : (b q : Bool) → ltb (first p n) n ≡ b → p n ≡ q → (k < first p n → p k ≡ false)
+        → k < cond b (first p n) (cond q n (suc n))
+        → p k ≡ false
+    go true q t e back l = back l
+    go false true t e back l = back (omega (arith, ltb-false (first p n) n t, at-most p n))
+    go false false t e back l =
+        ⊎-elim (λ h. back (omega (arith, ltb-false (first p n) n t))) (λ h. ap p h ∙ e) (below-or-last k n l)
+
+-- ---- for a loop that goes on after it has found one
 
 -- none has the property
 pub none : (p : ℕ → Bool) (n : ℕ) → ((k : ℕ) → k < n → p k ≡ false) → first p n ≡ n
 none p zero h = none-start p
 none p (suc n) h = rw (← add-one n) (none-more p n (none p n (λ k l. h k (omega arith))) (h n (omega arith)))
+
+-- none of n is none of fewer
+pub none-of-fewer : (p : ℕ → Bool) (m n : ℕ) → m ≤ n → first p n ≡ n → first p m ≡ m
+none-of-fewer p m n l e = none p m (λ k h. before p n k (omega arith))
 
 -- what was found stays the first as more things come
 keep-step : (p : ℕ → Bool) (n : ℕ) → first p n < n → first p (suc n) ≡ first p n

@@ -1,5 +1,6 @@
 -- Laws that the proofs of `font` share, and laws that tie its definitions to the document's words.
 -- Section 1: single-precision numbers.
+pub mod Scaled
 pub mod Closest
 pub mod Units
 pub mod Fixed
@@ -12,6 +13,7 @@ pub mod Casts
 pub mod OrderKey
 pub mod Compare
 pub mod Order
+pub mod InOrder
 pub mod Percent
 -- Section 2: font reading.
 pub mod Fields

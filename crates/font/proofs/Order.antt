@@ -14,7 +14,8 @@ use lib.Ieee.Fits.{eq→eqb, and-i, and-l, and-r}
 use borrow.Author.Tests.{le-ltb, le-leb, ltb-true, ltb-false}
 use Rattle.font.specs.Single.{orderKey, keyOfBits}
 use Rattle.font.proofs.Pattern.{pattern, Steps, pattern-mono, pattern-zero, pattern-under}
-use Rattle.font.proofs.Steps.{steps, negative, bits-of, steps-of}
+use Rattle.font.specs.Nearest.{negative}
+use Rattle.font.proofs.Steps.{steps, bits-of, steps-of}
 use Rattle.font.proofs.OrderKey.{key-of-nan, key-low, key-high}
 use Rattle.font.proofs.Compare.{same, same-lt, same-eq, Number, lt-in-steps, eq-in-steps}
 

@@ -9,6 +9,8 @@ use lib.Pow.{pow-add, pow-pos, pow-lt}
 use lib.Ieee.{Float, nan, inf, fin, binary32, up, down, fits, isNan, toBits, size}
 use lib.Ieee.Digits.{back}
 use lib.Ieee.Fits.{and-l, and-r, up-pos, down-pos}
+use Rattle.font.specs.Nearest.{negative}
+use Rattle.font.proofs.Scaled.{in-units}
 use Rattle.font.proofs.Pattern.{dropped, kept, pattern, Steps, kept-exact}
 
 unfoldable pub steps : Float → ℕ
@@ -16,14 +18,9 @@ steps nan = 0
 steps (inf s) = 2 ^ 277
 steps (fin s m e) = m * up e * 2 ^ 149 / down e
 
-unfoldable pub negative : Float → Bool
-negative nan = false
-negative (inf s) = s
-negative (fin s m e) = s
-
 -- the bits are the sign's and the magnitude's
 pub bits-of : (x : Float) → T (not (isNan x)) → toBits binary32 x ≡ cond (negative x) (2 ^ 31) 0 + pattern (steps x)
-unfolding isNan toBits steps negative pattern size
+unfolding isNan toBits steps pattern size
 bits-of nan h = absurd h
 bits-of (inf s) h = refl
 bits-of (fin s m e) h =
@@ -58,19 +55,6 @@ bounds s (suc m) e h =
       high = ltb→lt (suc m * up e) (2 ^ 128 * down e) (and-r (A && B && C) D h);
     }
 
-pow-le-back : (a l : ℕ) → 2 ^ a ≤ 2 ^ l → a ≤ l
-pow-le-back a l h = le-of-suc-le-suc (lt-of-not-le (λ (g : suc l ≤ a). lt-irrefl (2 ^ l) (lt-of-lt-of-le (pow-lt g) h)))
-
--- m * 2 ^ e is m * 2 ^ j steps of 2 ^ -l
-scaled : (l m : ℕ) (e : ℤ) → down e ≤ 2 ^ l → (j : ℕ) × (m * up e * 2 ^ l ≡ m * 2 ^ j * down e)
-scaled l m (pos a) h = (a + l, mul-assoc m (2 ^ a) (2 ^ l) ∙ ap (λ (x : ℕ). m * x) (sym (pow-add 2 a l)) ∙ sym (mul-one (m * 2 ^ (a + l))))
-scaled l m (negsuc a) h = (
-  l - suc a,
-  ap (λ (x : ℕ). x * 2 ^ l) (mul-one m)
-      ∙ ap (λ (x : ℕ). m * x) (ap (λ (x : ℕ). 2 ^ x) (sym (back l (suc a) (pow-le-back (suc a) l h))) ∙ pow-add 2 (l - suc a) (suc a))
-      ∙ sym (mul-assoc m (2 ^ (l - suc a)) (2 ^ suc a)),
-)
-
 under : (l t a d n : ℕ) → 0 < l → a < t * d → a * l ≡ n * d → n < t * l
 under l t a d n L h e =
     lt-of-mul-lt-mul-right d (subst (λ (x : ℕ). x < t * l * d) e (subst (λ (x : ℕ). a * l < x) (mul-right-comm t d l) (mul-lt-mul-of-pos-right h L)))
@@ -84,7 +68,7 @@ pub value-of : (s : Bool) (m : ℕ) (e : ℤ) → T (fits binary32 (fin s m e)) 
 unfolding steps
 value-of s m e h =
     let b = bounds s m e h in
-    let p = scaled 149 m e (b .low) in
+    let p = in-units 149 m e (b .low) in
     let n = m * 2 ^ p.0 in
     let e′ : n ≡ steps (fin s m e) = sym (div-eq-of-eq-mul-left (down-pos e) (p .1)) in
     subst (Value m e) e′

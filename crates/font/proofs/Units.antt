@@ -17,21 +17,9 @@ use lib.Ieee.Order.{drop, kept}
 use lib.Ieee.Scale.{grid, overflow, finite}
 use lib.Ieee.Positive.{num, den}
 use Rattle.font.proofs.Closest.{kept-ge, kept-le}
+use Rattle.font.proofs.Scaled.{in-units}
 
 -- ---- a value that the format holds, in units
-pow-le-back : (a l : ℕ) → 2 ^ a ≤ 2 ^ l → a ≤ l
-pow-le-back a l h = le-of-suc-le-suc (lt-of-not-le (λ (g : suc l ≤ a). lt-irrefl (2 ^ l) (lt-of-lt-of-le (pow-lt g) h)))
-
-in-units : (l m : ℕ) (e : ℤ) → down e ≤ 2 ^ l → (j : ℕ) × (m * up e * 2 ^ l ≡ m * 2 ^ j * down e)
-in-units l m (pos a) h = (a + l, mul-assoc m (2 ^ a) (2 ^ l) ∙ ap (λ (x : ℕ). m * x) (sym (pow-add 2 a l)) ∙ sym (mul-one (m * 2 ^ (a + l))))
-in-units l m (negsuc a) h =
-    let j = l - suc a in (
-      j,
-      ap (λ (x : ℕ). x * 2 ^ l) (mul-one m)
-          ∙ ap (λ (x : ℕ). m * x) (ap (λ (x : ℕ). 2 ^ x) (sym (back l (suc a) (pow-le-back (suc a) l h))) ∙ pow-add 2 j (suc a))
-          ∙ sym (mul-assoc m (2 ^ j) (2 ^ suc a)),
-    )
-
 -- y is m * 2 ^ j units, and m has no more digits than the format keeps
 abbrev pub OnGrid : Format → Float → Type 0
 OnGrid f y = (m : ℕ) × (j : ℕ) × (m < 2 ^ prec f) × (num y * 2 ^ low f ≡ m * 2 ^ j * den y)

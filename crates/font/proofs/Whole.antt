@@ -13,7 +13,8 @@ use lib.Ieee.Fits.{down-pos}
 use lib.Ieee.Nearest.{div-same}
 use Rattle.font.specs.Single.{wholeOf}
 use Rattle.font.proofs.Pattern.{dropped, kept, pattern, Steps, kept-under, lead, pattern-under}
-use Rattle.font.proofs.Steps.{steps, negative, bits-of, value-of, steps-of}
+use Rattle.font.specs.Nearest.{negative}
+use Rattle.font.proofs.Steps.{steps, bits-of, value-of, steps-of}
 
 -- ---- the whole part of n steps
 

@@ -14,15 +14,15 @@ use Rattle.font.specs.Tables.{u16At, u32At, findTable, partOf}
 
 -- "Best first: (3,10), (0,4) or (0,6); then (3,1) or (0,0) to (0,3); then (3,0), symbol; then (1,0), Mac Roman."
 -- The classes are numbered from 0 in that order. A pair in none of them has the class 4.
-unfoldable pub is : ℕ → ℕ → ℕ → ℕ → Bool
-is platform encoding p e = eqb platform p && eqb encoding e
+unfoldable pub isPair : ℕ → ℕ → ℕ → ℕ → Bool
+isPair platform encoding p e = eqb platform p && eqb encoding e
 
 unfoldable pub classOf : ℕ → ℕ → ℕ
 classOf p e =
-    cond (is p e 3 10 || (is p e 0 4 || is p e 0 6)) 0
-    (cond (is p e 3 1 || (eqb p 0 && leb e 3)) 1
-    (cond (is p e 3 0) 2
-    (cond (is p e 1 0) 3
+    cond (isPair p e 3 10 || (isPair p e 0 4 || isPair p e 0 6)) 0
+    (cond (isPair p e 3 1 || (eqb p 0 && leb e 3)) 1
+    (cond (isPair p e 3 0) 2
+    (cond (isPair p e 1 0) 3
     4)))
 
 -- "16-bit record count at 2, then 8-byte records of platform, encoding, 32-bit offset."

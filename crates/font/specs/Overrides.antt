@@ -1,6 +1,6 @@
 -- Section 3: overrides on a face by value, and which faces are accepted.
 use Prim.Native.Nat.{ℕ, zero, suc, min}
-use mathlib.Core.Bool.{Bool, true, _&&_, cond}
+use mathlib.Core.Bool.{Bool, true, false, _&&_, cond}
 use mathlib.Core.List.{List}
 use lib.ListN.{length, getD, set}
 use lib.Dec.{leb, ltb, eqb}
@@ -82,8 +82,8 @@ withOverride f o tags values =
 
 unfoldable pub isNormal : FontStyle → Bool
 isNormal Normal = true
-isNormal Italic = mathlib.Core.Bool.false
-isNormal (Oblique a) = mathlib.Core.Bool.false
+isNormal Italic = false
+isNormal (Oblique a) = false
 
 unfoldable pub replacedDefaults : Attributes → Attributes → Attributes
 replacedDefaults own given =

@@ -19,9 +19,9 @@ pub enum Charmap {
 }
 
 // A record of `cmap` and its class.
-pub struct BestRecord {
-    pub class: u8,
-    pub i: usize,
+struct BestRecord {
+    class: u8,
+    i: usize,
 }
 
 // The class of an encoding record, 0 the best; 4 stands for none.

@@ -51,7 +51,7 @@ pub struct FontInfo {
     pub charmap_index: CharmapIndex,
 }
 
-// A face, or the number of the refusal beside a face that says nothing. 0 is no refusal.
+// A face, and the number of the refusal, 0 for none. A face beside a refusal is not to be used.
 pub struct Checked {
     pub refusal: u8,
     pub font: FontInfo,

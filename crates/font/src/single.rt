@@ -1,4 +1,4 @@
-// Single-precision numbers, worked out from their bits.
+// Single-precision numbers: comparison, rounding and truncation.
 ghost use mathlib.Core.Path.{_≡_};
 ghost use mathlib.Core.Bool.{false};
 ghost use lib.Ieee.Scale.{finite};
@@ -60,7 +60,7 @@ pub fn fixed_to_single(n: u32) -> f32
 }
 
 // The magnitude of x without its fraction, held to 2^32 - 1; 0 for a NaN.
-pub fn truncate(x: f32) -> u32
+fn truncate(x: f32) -> u32
     ensures { λ r. ⌜ r ≡ wholeOf x ⌝ }
 {
     if x != x {

@@ -1,6 +1,6 @@
 -- `font::overrides::first_axis` meets its contract. The invariant: none of the axes before i has the tag.
 -- Assumes nothing.
-use Prim.Native.Nat.{ℕ, _≤_, _-_}
+use Prim.Native.Nat.{ℕ, _-_}
 use mathlib.Core.Path.{_≡_, sym, _∙_, ap}
 use lib.Dec.{eqb}
 use borrow.Author.Needs.{needs}
@@ -8,18 +8,18 @@ use borrow.Author.Tests.{eq-eqb, ne-eqb}
 use native.Mathlib.Omega.{arith}
 use Rattle.font.specs.First.{first}
 use Rattle.font.specs.Overrides.{axisOf, firstAxis}
-use Rattle.font.proofs.First.{none-start, none-more, found}
+use Rattle.font.proofs.First.{none-start, none-more, none-of-fewer, found}
 use Rattle.font.proofs.overrides.first_axis.Statement.{statement}
 use Rattle.font.proofs.overrides.first_axis.Tie as tie
 
 abbrev Inv-loop : tie.InvT-loop
-Inv-loop count tag axes i₀ i = (i ≤ count) × (first (λ k. eqb (axisOf axes k .tag) tag) i ≡ i)
+Inv-loop count tag axes i₀ i = first (λ k. eqb (axisOf axes k .tag) tag) i ≡ i
 
 abbrev μ-loop : tie.MeasureT-loop
 μ-loop count tag axes i₀ i = count - i
 
 loop-holds : tie.Need-loop-holds Inv-loop μ-loop
-loop-holds c = (omega arith, none-start _)
+loop-holds c = none-start _
 
 mul-if1 : tie.Need-mul-if1 Inv-loop μ-loop
 mul-if1 c = omega arith
@@ -29,7 +29,7 @@ element-copy-out-if1 c = omega arith
 
 returns : tie.Need-returns Inv-loop μ-loop
 unfolding axisOf firstAxis
-returns c = found _ _ _ (c .before .before .loop .inv .1) (eq-eqb _ _ (c .if1 .taken)) (omega arith)
+returns c = found _ _ _ (c .before .before .loop .inv) (eq-eqb _ _ (c .if1 .taken)) (omega arith)
 
 add-i : tie.Need-add-i Inv-loop μ-loop
 add-i c = omega arith
@@ -39,12 +39,11 @@ loop-less c = omega arith
 
 loop-again : tie.Need-loop-again Inv-loop μ-loop
 unfolding axisOf firstAxis
-loop-again c = (omega arith, none-more _ _ (c .before .before .loop .inv .1) (ne-eqb _ _ (c .if1 .left)))
+loop-again c = none-more _ _ (c .before .before .loop .inv) (ne-eqb _ _ (c .if1 .left))
 
 returns-2 : tie.Need-returns-2 Inv-loop μ-loop
 unfolding axisOf firstAxis
-returns-2 c = let end : c .before .loop .i ≡ c .before .before .args .count = omega arith in
-    sym (rw (← end) (c .before .loop .inv .1))
+returns-2 c = sym (none-of-fewer _ _ _ (c .loop-test .left) (c .before .loop .inv))
 
 pub first-axis-spec : {M : Type 1} → statement M
 first-axis-spec =

@@ -1,6 +1,6 @@
 -- `font::tables::first_record` meets its contract. The invariant: none of the records before i has the tag.
 -- Assumes nothing.
-use Prim.Native.Nat.{ℕ, _≤_, _<_, _-_}
+use Prim.Native.Nat.{ℕ, _-_}
 use mathlib.Core.Path.{_≡_, sym, _∙_}
 use mathlib.Core.Bool.{Bool}
 use lib.Dec.{eqb}
@@ -9,12 +9,12 @@ use borrow.Author.Tests.{eq-eqb, ne-eqb}
 use native.Mathlib.Omega.{arith}
 use Rattle.font.specs.First.{first}
 use Rattle.font.specs.Tables.{firstRecord, recordTag, recordCount}
-use Rattle.font.proofs.First.{none-start, none-more, found}
+use Rattle.font.proofs.First.{none-start, none-more, none-of-fewer, found}
 use Rattle.font.proofs.tables.first_record.Statement.{statement}
 use Rattle.font.proofs.tables.first_record.Tie as tie
 
 abbrev Inv-loop : tie.InvT-loop
-Inv-loop font tag count i₀ i = (i ≤ count) × (first (λ k. eqb (recordTag font k) tag) i ≡ i)
+Inv-loop font tag count i₀ i = first (λ k. eqb (recordTag font k) tag) i ≡ i
 
 abbrev μ-loop : tie.MeasureT-loop
 μ-loop font tag count i₀ i = count - i
@@ -26,7 +26,7 @@ cast-count : tie.Need-cast-count Inv-loop μ-loop
 cast-count c = search needs
 
 loop-holds : tie.Need-loop-holds Inv-loop μ-loop
-loop-holds c = (omega arith, none-start _)
+loop-holds c = none-start _
 
 mul-u32-at : tie.Need-mul-u32-at Inv-loop μ-loop
 mul-u32-at c = search needs
@@ -39,7 +39,7 @@ u32-at-requires c κs = search needs
 
 returns : tie.Need-returns Inv-loop μ-loop
 unfolding firstRecord recordTag recordCount
-returns c = found _ _ _ (c .before .before .before .loop .inv .1) (eq-eqb _ _ (sym (c .before .u32-at .ensures) ∙ c .if1 .taken)) (omega (arith, c .before .before .before .before .u16-at .ensures))
+returns c = found _ _ _ (c .before .before .before .loop .inv) (eq-eqb _ _ (sym (c .before .u32-at .ensures) ∙ c .if1 .taken)) (omega (arith, c .before .before .before .before .u16-at .ensures))
 
 add-i : tie.Need-add-i Inv-loop μ-loop
 add-i c = search needs
@@ -49,12 +49,12 @@ loop-less c = search needs
 
 loop-again : tie.Need-loop-again Inv-loop μ-loop
 unfolding firstRecord recordTag recordCount
-loop-again c = (search needs, none-more _ _ (c .before .before .before .loop .inv .1) (ne-eqb _ _ (λ e. c .if1 .left (c .before .u32-at .ensures ∙ e))))
+loop-again c = none-more _ _ (c .before .before .before .loop .inv) (ne-eqb _ _ (λ e. c .if1 .left (c .before .u32-at .ensures ∙ e)))
 
 returns-2 : tie.Need-returns-2 Inv-loop μ-loop
 unfolding firstRecord recordTag recordCount
-returns-2 c = let same : c .before .loop .i ≡ c .before .before .u16-at .result = omega arith in
-    sym (rw (← c .before .before .u16-at .ensures, ← same) (c .before .loop .inv .1))
+returns-2 c =
+    sym (rw (← c .before .before .u16-at .ensures) (none-of-fewer _ _ _ (c .loop-test .left) (c .before .loop .inv)))
 
 pub first-record-spec : {M : Type 1} → statement M
 first-record-spec =
