@@ -1,0 +1,9 @@
+//! Seeded jobs, valid and damaged, and the small fonts they hold.
+//!
+//! Nothing here reads a job's meaning: what a job is refused for is known by
+//! how it was built, or not at all.
+
+pub mod bytes;
+pub mod fonts;
+pub mod numbers;
+pub mod random;
