@@ -4,6 +4,10 @@
 //! how it was built, or not at all.
 
 pub mod bytes;
+pub mod damage;
 pub mod fonts;
+pub mod generate;
+pub mod layout;
+pub mod list;
 pub mod numbers;
 pub mod random;

@@ -25,3 +25,4 @@ pub(crate) use core::sync::atomic::AtomicU64 as AtomicCounter;
 pub mod describe;
 pub mod families;
 pub mod fonts;
+pub mod offers;
