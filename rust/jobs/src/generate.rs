@@ -165,7 +165,7 @@ fn font_file(r: &mut Random, spread: Spread, pools: &Pools, bare: bool) -> Vec<u
         return random_font(r);
     }
     let mut tables: Vec<Table> = vec![(*b"cmap", small_cmap(r))];
-    if !bare && r.chance(2, 5) {
+    if !bare && r.chance(3, 10) {
         let weight = r.pick(&[100, 300, 400, 400, 500, 700, 900, 65535]);
         let width = r.pick(&[0, 1, 3, 4, 5, 5, 5, 6, 8, 9]);
         let selection = r.pick(&[0, 0, 0, 1, 0x0200, 0x0201]);
@@ -177,7 +177,14 @@ fn font_file(r: &mut Random, spread: Spread, pools: &Pools, bare: bool) -> Vec<u
     } else if !bare && r.chance(1, 6) {
         tables.push((*b"head", head(r.below(4) as u16)));
     }
-    let axes = axes(r, spread, pools);
+    let mut axes = axes(r, spread, pools);
+    // Just within the limit, or over it.
+    if r.chance(1, 400) {
+        let count = r.within(15, 18);
+        axes = (0..count)
+            .map(|i| axis(r, TAGS[i % TAGS.len()], pools))
+            .collect();
+    }
     if !axes.is_empty() || r.chance(1, 20) {
         tables.push((*b"fvar", fvar(&axes)));
     }

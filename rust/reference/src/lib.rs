@@ -26,3 +26,6 @@ pub mod describe;
 pub mod families;
 pub mod fonts;
 pub mod offers;
+
+#[cfg(test)]
+mod beside;

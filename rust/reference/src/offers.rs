@@ -56,8 +56,8 @@ pub struct Counts {
     pub offers: u64,
     /// Offers with embolden, a skew, or settings.
     pub synthesized: u64,
-    /// Requests whose list was cut.
-    pub cut: u64,
+    /// Requests whose list is as long as its most.
+    pub full: u64,
 }
 
 /// Names and sources that every job uses again.
@@ -134,7 +134,7 @@ impl Harness {
             }
             self.counts.requests += 1;
             self.counts.offers += ours.len() as u64;
-            self.counts.cut += u64::from(ours.len() == usize::from(request.most));
+            self.counts.full += u64::from(ours.len() == usize::from(request.most));
             for offer in &ours {
                 let any = offer.embolden || offer.skew != 0 || !offer.settings.is_empty();
                 self.counts.synthesized += u64::from(any);
@@ -470,14 +470,14 @@ impl Counts {
         }
         let _ = write!(
             text,
-            "\nanswers known by construction {}\nfaces {} families {} requests {}\noffers {} with synthesis {} lists cut {}\nno difference\n",
+            "\nanswers known by construction {}\nfaces {} families {} requests {}\noffers {} with synthesis {} lists as long as their most {}\nno difference\n",
             self.known,
             self.faces,
             self.families,
             self.requests,
             self.offers,
             self.synthesized,
-            self.cut,
+            self.full,
         );
         text
     }
