@@ -19,6 +19,9 @@ pub struct Case {
 pub fn made() -> Vec<Case> {
     let mut list = List(Vec::new());
     pairs(&mut list);
+    faces_to_try(&mut list);
+    grids(&mut list);
+    axis_sets(&mut list);
     limits(&mut list);
     every_field(&mut list);
     list.0
@@ -82,18 +85,24 @@ fn bare_face() -> Face {
     }
 }
 
-fn axes(count: usize) -> Face {
-    let axis = |i: usize| FixedAxis {
-        tag: [b'A', b'X', b'0' + (i / 10) as u8, b'0' + (i % 10) as u8],
+fn face_with_axes(tags: &[[u8; 4]]) -> Face {
+    let axis = |tag: &[u8; 4]| FixedAxis {
+        tag: *tag,
         min: 0,
-        default: 0x0001_0000,
-        max: 0x0002_0000,
+        default: 400 << 16,
+        max: 900 << 16,
     };
-    let axes: Vec<FixedAxis> = (0..count).map(axis).collect();
+    let axes: Vec<FixedAxis> = tags.iter().map(axis).collect();
     Face {
         held: true,
         font: font(START, &[(*b"cmap", plain_cmap()), (*b"fvar", fvar(&axes))]),
     }
+}
+
+fn axes(count: usize) -> Face {
+    let tag = |i: usize| [b'A', b'X', b'0' + (i / 10) as u8, b'0' + (i % 10) as u8];
+    let tags: Vec<[u8; 4]> = (0..count).map(tag).collect();
+    face_with_axes(&tags)
 }
 
 fn request(ratio: f32, weight: f32) -> Request {
@@ -147,6 +156,213 @@ fn pairs(list: &mut List) {
             _ => list.refused(label, &job, 26, end - 17),
         }
     }
+}
+
+const NORMAL: Style = Style { kind: 0, angle: 0 };
+const ITALIC: Style = Style { kind: 1, angle: 0 };
+const UNSTATED: Style = Style { kind: 2, angle: 0 };
+
+fn stated(angle: f32) -> Style {
+    Style {
+        kind: 3,
+        angle: angle.to_bits(),
+    }
+}
+
+/// Ratio, style and weight.
+type Attributes = (f32, Style, f32);
+
+fn asking((ratio, style, weight): Attributes) -> Request {
+    Request {
+        style,
+        ..request(ratio, weight)
+    }
+}
+
+/// One face for each, by way of an override; the slanted ones have the axis.
+fn overridden(faces: &[Attributes], slanted: impl Fn(usize) -> bool) -> Job {
+    let mut job = Job::default();
+    for (i, (ratio, style, weight)) in faces.iter().enumerate() {
+        job.faces.push(if slanted(i) {
+            face_with_axes(&[*b"slnt"])
+        } else {
+            bare_face()
+        });
+        job.overrides.push(Override {
+            face: i as u16,
+            ratio: Some(ratio.to_bits()),
+            style: Some(*style),
+            weight: Some(weight.to_bits()),
+            pairs: Vec::new(),
+        });
+    }
+    job
+}
+
+/// Section 7 of 01, by its numbers; 12 is no matter of a job.
+fn faces_to_try(list: &mut List) {
+    let weight = |w: f32| (1.0, NORMAL, w);
+    let width = |x: f32| (x, NORMAL, 400.0);
+    let style = |s: Style| (1.0, s, 400.0);
+    let fourteen = [style(UNSTATED), style(stated(14.0))];
+    let left = [style(stated(-10.0)), style(stated(-20.0))];
+    let two: [(u32, [Attributes; 2], Attributes); 11] = [
+        (1, [weight(300.0), weight(600.0)], weight(450.0)),
+        (2, [weight(400.0), weight(500.0)], weight(450.0)),
+        (3, [weight(350.0), weight(350.0)], weight(400.0)),
+        (4, [weight(600.0), weight(600.0)], weight(550.0)),
+        (5, [width(0.75), width(1.25)], width(1.0)),
+        (5, [width(0.75), width(1.25)], width(1.125)),
+        (6, fourteen, style(ITALIC)),
+        (6, fourteen, style(stated(20.0))),
+        (7, left, style(stated(-14.0))),
+        (7, left, style(stated(-13.5))),
+        (9, [style(NORMAL), style(stated(0.0))], style(ITALIC)),
+    ];
+    let mut add = |number: u32, mut job: Job, request: Attributes| {
+        job.families = vec![(0..job.faces.len() as u16).collect()];
+        job.requests = vec![asking(request)];
+        list.accepted(format!("section 7, {number}"), &job);
+    };
+    for (number, faces, request) in two {
+        add(number, overridden(&faces, |_| false), request);
+    }
+    let slant = |i: usize| i == 1;
+    for (number, own) in [(8, NORMAL), (13, stated(0.0))] {
+        let job = overridden(&[style(own); 2], slant);
+        add(number, job, style(stated(14.0)));
+    }
+    let one = overridden(&[weight(400.0)], |_| false);
+    for asked in [600.0, 601.0] {
+        add(10, one.clone(), weight(asked));
+    }
+    for asked in [0.9, -14.9, 200.0, -200.0] {
+        add(11, one.clone(), style(stated(asked)));
+    }
+}
+
+/// 64 families of two to five of the faces, and requests for all of them.
+fn grid(list: &mut List, label: &str, mut job: Job, requests: &[Attributes]) {
+    let mut r = Random::new(job.faces.len() as u64);
+    let faces = job.faces.len();
+    job.families = (0..64)
+        .map(|_| {
+            let places = r.within(2, 5);
+            (0..places).map(|_| r.below(faces) as u16).collect()
+        })
+        .collect();
+    for asked in requests {
+        job.requests.push(Request {
+            most: 65535,
+            families: (0..64).collect(),
+            ..asking(*asked)
+        });
+    }
+    list.accepted(label, &job);
+}
+
+/// Styles, weights and widths at their edges, many small families of them.
+fn grids(list: &mut List) {
+    let fourteen = 14f32;
+    let styles = [
+        NORMAL,
+        ITALIC,
+        UNSTATED,
+        stated(14.0),
+        stated(fourteen.next_up()),
+        stated(fourteen.next_down()),
+        stated(20.0),
+        stated(5.0),
+        stated(0.0),
+        stated(-0.0),
+        stated(-5.0),
+        stated(-14.0),
+        stated(-fourteen.next_up()),
+        stated(-fourteen.next_down()),
+        stated(-20.0),
+    ];
+    let mut asked: Vec<Attributes> = styles.iter().map(|s| (1.0, *s, 400.0)).collect();
+    asked.extend([4.0, -4.0, 16.0, -16.0].map(|angle| (1.0, stated(angle), 400.0)));
+    let faces: Vec<Attributes> = asked[..styles.len()].to_vec();
+    grid(list, "styles", overridden(&faces, |_| false), &asked);
+    // Twice each, some of them slanted.
+    let twice = faces.repeat(2);
+    let slanted = |i: usize| i > 15 && i % 3 == 0;
+    grid(list, "styles, slanted", overridden(&twice, slanted), &asked);
+    // One side only, unstated beside stated 14: its order decides.
+    let near: Vec<Attributes> = [UNSTATED, stated(14.0), stated(12.0), stated(16.0), NORMAL]
+        .map(|style| (1.0, style, 400.0))
+        .to_vec();
+    grid(
+        list,
+        "styles beside 14",
+        overridden(&near, |_| false),
+        &asked,
+    );
+
+    let weights = [
+        -0.0f32, 0.0, 300.0, 399.0, 400.0, 401.0, 450.0, 450.0, 499.0, 500.0, 501.0, 600.0, 700.0,
+    ];
+    let faces: Vec<Attributes> = weights.iter().map(|w| (1.0, NORMAL, *w)).collect();
+    let asked: Vec<Attributes> = [
+        0.0,
+        350.0,
+        400f32.next_down(),
+        400.0,
+        425.0,
+        450.0,
+        500.0,
+        500f32.next_up(),
+        550.0,
+        800.0,
+    ]
+    .map(|w| (1.0, NORMAL, w))
+    .to_vec();
+    grid(list, "weights", overridden(&faces, |_| false), &asked);
+
+    let ratios = [
+        0.0, -0.0, 0.5, 0.87109375, 0.875, 0.99, 1.0, 1.005, 1.01, 1.125, 1.25, 16.0,
+    ];
+    let faces: Vec<Attributes> = ratios.iter().map(|x| (*x, NORMAL, 400.0)).collect();
+    let mut asked = faces.clone();
+    asked.extend([0.7, 0.98, 1.02, 2.0].map(|x| (x, NORMAL, 400.0)));
+    grid(list, "widths", overridden(&faces, |_| false), &asked);
+}
+
+/// A face for each set of the axes that synthesis sets, each a family alone.
+fn axis_sets(list: &mut List) {
+    let tags = [*b"wght", *b"wdth", *b"slnt", *b"ital"];
+    let mut job = Job::default();
+    for set in 0..16u16 {
+        let tags: Vec<[u8; 4]> = (0..4)
+            .filter(|bit| set & (1 << bit) != 0)
+            .map(|bit| tags[bit])
+            .collect();
+        job.faces.push(face_with_axes(&tags));
+        job.families.push(vec![set]);
+    }
+    let asked: [Attributes; 12] = [
+        (1.0, NORMAL, 400.0),
+        (1.0, NORMAL, 600.0),
+        (1.0, NORMAL, 600f32.next_up()),
+        (1.0, ITALIC, 399.0),
+        (0.875, UNSTATED, 400.0),
+        (-0.0, stated(14.5), 400.0),
+        (1f32.next_up(), stated(-0.0), 700.0),
+        (1.0, stated(0.0), 400.0),
+        (2.0, stated(-0.9), 900.0),
+        (1.0, stated(-128.5), 400.0),
+        (1.0, stated(-129.0), 400.0),
+        (16.0, stated(f32::MAX), f32::MAX),
+    ];
+    for asked in asked {
+        job.requests.push(Request {
+            most: 65535,
+            families: (0..16).collect(),
+            ..asking(asked)
+        });
+    }
+    list.accepted("sets of axes", &job);
 }
 
 /// Each count at its limit and one over it, the entries being there.
