@@ -22,6 +22,7 @@ pub fn made() -> Vec<Case> {
     faces_to_try(&mut list);
     grids(&mut list);
     axis_sets(&mut list);
+    overrides(&mut list);
     limits(&mut list);
     every_field(&mut list);
     list.0
@@ -287,7 +288,7 @@ fn grids(list: &mut List) {
     grid(list, "styles", overridden(&faces, |_| false), &asked);
     // Twice each, some of them slanted.
     let twice = faces.repeat(2);
-    let slanted = |i: usize| i > 15 && i % 3 == 0;
+    let slanted = |i: usize| i > 15 && i.is_multiple_of(3);
     grid(list, "styles, slanted", overridden(&twice, slanted), &asked);
     // One side only, unstated beside stated 14: its order decides.
     let near: Vec<Attributes> = [UNSTATED, stated(14.0), stated(12.0), stated(16.0), NORMAL]
@@ -363,6 +364,78 @@ fn axis_sets(list: &mut List) {
         });
     }
     list.accepted("sets of axes", &job);
+}
+
+/// Every mask over a face that has other attributes of its own, overrides of
+/// one face in turn, and pairs of tags that are there twice, once or not.
+fn overrides(list: &mut List) {
+    let mut job = Job::default();
+    let narrow = [(*b"OS/2", os2(700, 3, 1)), (*b"cmap", plain_cmap())];
+    let given = |face: usize, mask: usize, (ratio, style, weight): Attributes| Override {
+        face: face as u16,
+        ratio: (mask & 1 != 0).then_some(ratio.to_bits()),
+        style: (mask & 2 != 0).then_some(style),
+        weight: (mask & 4 != 0).then_some(weight.to_bits()),
+        pairs: Vec::new(),
+    };
+    // Masks 0 to 7; then each of them before another override of the face.
+    for face in 0..16 {
+        job.faces.push(Face {
+            held: true,
+            font: font(START, &narrow),
+        });
+        job.overrides
+            .push(given(face, face % 8, (1.25, stated(10.0), 300.0)));
+        if face >= 8 {
+            job.overrides.push(given(face, 5, (0.5, ITALIC, 900.0)));
+            job.overrides.push(given(face, 2, (1.0, UNSTATED, 1.0)));
+        }
+        // Each beside one with the attributes of the file.
+        job.families.push(vec![0, face as u16]);
+    }
+    let asked = [
+        (0.75, ITALIC, 700.0),
+        (1.25, stated(10.0), 300.0),
+        (0.5, UNSTATED, 900.0),
+        (1.25, ITALIC, 700.0),
+        (0.75, NORMAL, 200.0),
+    ];
+    for asked in asked {
+        job.requests.push(Request {
+            most: 65535,
+            families: (0..16).collect(),
+            ..asking(asked)
+        });
+    }
+    list.accepted("overrides with every mask", &job);
+
+    let tags = [*b"GRAD", *b"wght", *b"wght"];
+    let pair = |tag: &[u8; 4], value: f32| (*tag, value.to_bits());
+    let lists = [
+        vec![],
+        vec![pair(b"wght", 500.0)],
+        vec![pair(b"wght", 500.0), pair(b"wght", 600.0)],
+        vec![pair(b"wght", 600.0), pair(b"GRAD", 500.0)],
+        vec![pair(b"wghT", 500.0), pair(b"wdth", 500.0)],
+        vec![pair(b"wght", -0.0), pair(b"    ", 1.0)],
+    ];
+    let mut job = Job::default();
+    for (face, pairs) in lists.into_iter().enumerate() {
+        job.faces.push(face_with_axes(&tags));
+        job.families.push(vec![face as u16]);
+        job.overrides.push(Override {
+            face: face as u16,
+            pairs,
+            ..Override::default()
+        });
+    }
+    for weight in [400.0, 500.0, 600.0, 0.0] {
+        job.requests.push(Request {
+            families: (0..6).collect(),
+            ..request(1.0, weight)
+        });
+    }
+    list.accepted("overrides of axes", &job);
 }
 
 /// Each count at its limit and one over it, the entries being there.
