@@ -89,12 +89,7 @@ impl Harness {
         let bytes = &case.bytes[..];
         let (number, position) = plain::check(bytes);
         fonts_agree(bytes, number, position as usize)?;
-        let known = match case.expected {
-            Expected::Unknown => Ok(()),
-            Expected::Accepted => known(number, position as usize, 0, usize::MAX),
-            Expected::Refused(n, at) => known(number, position as usize, n, at),
-        };
-        known?;
+        known(number, position as usize, case.expected)?;
         if case.expected != Expected::Unknown {
             self.counts.known += 1;
         }
@@ -122,27 +117,27 @@ impl Harness {
         self.counts.families += job.families.len() as u64;
         let mut text = format!("requests {}\n", job.requests.len());
         for (number, request) in job.requests.iter().enumerate() {
-            let ours = original.offers(request);
-            let theirs: Vec<Offer> = plain::offers(&read, &read.requests[number])
+            let by_original = original.offers(request);
+            let by_plain: Vec<Offer> = plain::offers(&read, &read.requests[number])
                 .iter()
                 .map(offer_of_plain)
                 .collect();
-            if ours != theirs {
+            if by_original != by_plain {
                 return Err(format!(
-                    "request {number}:\n the original {ours:?}\n plain {theirs:?}"
+                    "request {number}:\n the original {by_original:?}\n plain {by_plain:?}"
                 ));
             }
             self.counts.requests += 1;
-            self.counts.offers += ours.len() as u64;
-            self.counts.full += u64::from(ours.len() == usize::from(request.most));
-            for offer in &ours {
+            self.counts.offers += by_original.len() as u64;
+            self.counts.full += u64::from(by_original.len() == usize::from(request.most));
+            for offer in &by_original {
                 let any = offer.embolden || offer.skew != 0 || !offer.settings.is_empty();
                 self.counts.synthesized += u64::from(any);
                 put_line(&mut text, number, offer);
             }
             // The call, at both ends of one list in a job.
             if number as u64 == self.counts.jobs % job.requests.len() as u64 {
-                calls(bytes, number as u32, &ours)?;
+                calls(bytes, number as u32, &by_original)?;
             }
         }
         let mut out = [0x5a; OUTPUT];
@@ -370,17 +365,18 @@ fn refused_calls(bytes: &[u8], number: u32) -> Result<(), String> {
 
 /// Whether the answer is the one that is known by how the job was built. A
 /// font that is refused and stands before comes first.
-fn known(number: u32, position: usize, expected: u32, at: usize) -> Result<(), String> {
-    let answered = if expected == 0 {
-        number == 0
-    } else {
-        (number, position) == (expected, at)
+fn known(number: u32, position: usize, expected: Expected) -> Result<(), String> {
+    let font = (21..=23).contains(&number);
+    let agrees = match expected {
+        Expected::Unknown => true,
+        Expected::Accepted => number == 0 || font,
+        Expected::Refused(n, at) => (number, position) == (n, at) || (font && position < at),
     };
-    if answered || ((21..=23).contains(&number) && position < at) {
+    if agrees {
         return Ok(());
     }
     Err(format!(
-        "plain answers {number} at {position}; by how it was built it is {expected} at {at}"
+        "plain answers {number} at {position}; by how it was built: {expected:?}"
     ))
 }
 
@@ -394,6 +390,7 @@ fn fonts_agree(bytes: &[u8], number: u32, position: usize) -> Result<(), String>
             .map(|b| u16::from_be_bytes([b[0], b[1]]))
     };
     let mut at = 2;
+    let mut met = false;
     for _ in 0..read16(0).unwrap_or(0) {
         let length_at = at + 1;
         if length_at > end {
@@ -416,7 +413,11 @@ fn fonts_agree(bytes: &[u8], number: u32, position: usize) -> Result<(), String>
                 "the font at {length_at}: the original {refused}, plain {expected}"
             ));
         }
+        met |= length_at == end;
         at = length_at + 4 + file.len();
+    }
+    if (21..=23).contains(&number) && !met {
+        return Err(format!("{number} at {position}, where no font stands"));
     }
     Ok(())
 }
