@@ -6,6 +6,7 @@
 use std::{
     fmt::Write as _,
     fs, io,
+    panic::{self, AssertUnwindSafe},
     path::{Path, PathBuf},
     sync::Arc,
 };
@@ -448,9 +449,11 @@ pub fn compare_all(cases: impl Iterator<Item = Case>) -> io::Result<Counts> {
     Ok(harness.counts)
 }
 
-/// A difference is an error that tells the job in hexadecimal digits.
+/// A difference or a panic is an error that tells the job in hexadecimal digits.
 fn compare(harness: &mut Harness, case: &Case) -> io::Result<String> {
-    harness.compare(case).map_err(|difference| {
+    let answer = panic::catch_unwind(AssertUnwindSafe(|| harness.compare(case)));
+    let answer = answer.unwrap_or_else(|_| Err("a panic".into()));
+    answer.map_err(|difference| {
         let mut text = format!("difference in job {:?}: {difference}\njob ", case.label);
         for byte in &case.bytes {
             let _ = write!(text, "{byte:02x}");
