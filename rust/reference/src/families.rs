@@ -2,6 +2,7 @@
 
 use std::{fmt::Write as _, fs, io, path::Path};
 
+use jobs::numbers::{BANDS, angle, nearby, ratio, some, weight};
 use read_fonts::types::Tag;
 
 use crate::{
@@ -225,139 +226,6 @@ fn faces_to_try() -> Vec<Case> {
     out
 }
 
-const RATIOS: [f32; 26] = [
-    0.0,
-    -0.0,
-    0.5,
-    0.625,
-    0.75,
-    0.87,
-    0.875,
-    0.87109375,
-    0.87890625,
-    0.88,
-    0.98,
-    0.99,
-    0.995,
-    1.0,
-    1.0,
-    1.0,
-    1.005,
-    1.01,
-    1.02,
-    1.125,
-    1.121_093_8,
-    1.25,
-    1.5,
-    2.0,
-    15.999,
-    16.0,
-];
-
-const ANGLES: [f32; 44] = [
-    0.0,
-    0.0,
-    -0.0,
-    1e-45,
-    -1e-45,
-    0.5,
-    -0.5,
-    0.9,
-    -0.9,
-    1.0,
-    -1.0,
-    7.0,
-    -7.0,
-    10.0,
-    -10.0,
-    12.0,
-    13.5,
-    -13.5,
-    14.0,
-    14.0,
-    14.0,
-    -14.0,
-    -14.0,
-    14.9,
-    -14.9,
-    15.0,
-    -15.0,
-    20.0,
-    -20.0,
-    30.0,
-    -30.0,
-    90.0,
-    -90.0,
-    127.5,
-    128.0,
-    -128.5,
-    -129.0,
-    200.0,
-    -200.0,
-    256.0,
-    -256.5,
-    65536.0,
-    f32::MAX,
-    f32::MIN,
-];
-
-const WEIGHTS: [f32; 26] = [
-    0.0,
-    -0.0,
-    1.0,
-    100.0,
-    200.0,
-    250.0,
-    300.0,
-    350.0,
-    399.0,
-    400.0,
-    400.0,
-    400.0,
-    401.0,
-    450.0,
-    499.0,
-    500.0,
-    500.0,
-    501.0,
-    550.0,
-    600.0,
-    700.0,
-    900.0,
-    1000.0,
-    -100.0,
-    f32::MAX,
-    f32::MIN,
-];
-
-/// The number or, now and then, one of the two singles beside it.
-fn nearby(r: &mut Random, number: f32) -> f32 {
-    let near = match r.below(8) {
-        0 => number.next_up(),
-        1 => number.next_down(),
-        _ => number,
-    };
-    if near.is_finite() { near } else { number }
-}
-
-/// A ratio of 01: 0 to 16.
-fn ratio(r: &mut Random) -> f32 {
-    let ratio = match r.below(4) {
-        // Hundredths: the product with 100 often falls just short of the whole.
-        0 => r.below(201) as f32 / 100.0,
-        _ => r.pick(&RATIOS),
-    };
-    nearby(r, ratio).clamp(-0.0, 16.0)
-}
-
-fn angle(r: &mut Random) -> f32 {
-    let angle = match r.below(8) {
-        0 => r.below(601) as f32 / 10.0 - 30.0,
-        _ => r.pick(&ANGLES),
-    };
-    nearby(r, angle)
-}
-
 fn style(r: &mut Random) -> FontStyle {
     match r.below(8) {
         0..=1 => Normal,
@@ -367,17 +235,6 @@ fn style(r: &mut Random) -> FontStyle {
     }
 }
 
-fn weight(r: &mut Random) -> f32 {
-    let weight = match r.below(12) {
-        0 => r.below(1001) as f32,
-        // Large enough for the sum with 200 to be rounded.
-        1 => 4_000_000.0 + r.below(1 << 28) as f32,
-        2 => r.bits() as i32 as f32 / 65536.0,
-        _ => r.pick(&WEIGHTS),
-    };
-    nearby(r, weight)
-}
-
 /// Values that the faces of one case share, so that ties are common.
 struct Pools {
     ratios: Vec<f32>,
@@ -385,15 +242,6 @@ struct Pools {
     weights: Vec<f32>,
     /// The request is mostly one for a slope.
     sloping: bool,
-}
-
-fn some<T>(
-    r: &mut Random,
-    low: usize,
-    high: usize,
-    mut one: impl FnMut(&mut Random) -> T,
-) -> Vec<T> {
-    (0..r.within(low, high)).map(|_| one(r)).collect()
 }
 
 fn pools(r: &mut Random) -> Pools {
@@ -445,15 +293,6 @@ fn pools(r: &mut Random) -> Pools {
     }
     pools
 }
-
-/// Angles that section 4 of 01 puts into groups together.
-const BANDS: [&[f32]; 5] = [
-    &[0.5, 1.0, 7.0, 10.0, 12.0, 13.5, 13.999999],
-    &[14.0, 14.000_001, 15.0, 20.0, 30.0, 90.0],
-    &[-0.5, -1.0, -7.0, -10.0, -12.0, -13.5, -13.999999],
-    &[-14.0, -14.000_001, -15.0, -20.0, -30.0, -90.0],
-    &[0.0, -0.0, 1e-45, -1e-45],
-];
 
 fn slopes(r: &mut Random) -> Vec<FontStyle> {
     let mut styles = Vec::new();

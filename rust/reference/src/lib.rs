@@ -15,14 +15,17 @@ pub use collection::{Collection, Query, QueryFamily, QueryFont, QueryStatus};
 pub use fallback::FallbackKey;
 pub use family::{FamilyId, FamilyInfo};
 pub use font::{AxisInfo, FontInfo, FontInfoOverride, Synthesis};
+pub use jobs::{bytes, random};
 pub use linebender_resource_handle::Blob;
 pub use parlance::{FontStyle, FontWeight, FontWidth, GenericFamily, Language, Script};
 pub use source_cache::SourceCache;
 
 pub(crate) use core::sync::atomic::AtomicU64 as AtomicCounter;
 
-pub mod bytes;
 pub mod describe;
 pub mod families;
 pub mod fonts;
-pub mod random;
+pub mod offers;
+
+#[cfg(test)]
+mod beside;

@@ -1,13 +1,16 @@
 //! Command line of the reference harness.
 
-use std::{env, fs, io, path::PathBuf, process::ExitCode};
+use std::{env, fs, io, path::PathBuf, process::ExitCode, time::Instant};
 
-use reference::{describe, families, fonts};
+use jobs::list;
+use reference::{describe, families, fonts, offers};
 
 const USAGE: &str = "\
 usage:
   reference fonts --out DIR [--seed S] [--labels]
   reference families --out DIR [--seed S] [--count N]
+  reference jobs --out DIR [--seed S] [--count N] [--labels]
+  reference jobs --compare-only [--seed S] [--count N]
   reference describe FONTFILE";
 
 /// Seed of the lists where none is given.
@@ -16,12 +19,16 @@ const SEED: u64 = 1;
 /// Families where no count is given.
 const COUNT: usize = 2500;
 
+/// Random jobs where no count is given.
+const JOBS: usize = 400;
+
 #[derive(Default)]
 struct Options {
     out: Option<PathBuf>,
     seed: Option<u64>,
     count: Option<usize>,
     labels: bool,
+    compare_only: bool,
     file: Option<PathBuf>,
 }
 
@@ -33,11 +40,38 @@ fn options(mut args: impl Iterator<Item = String>) -> Option<Options> {
             "--seed" => options.seed = Some(args.next()?.parse().ok()?),
             "--count" => options.count = Some(args.next()?.parse().ok()?),
             "--labels" => options.labels = true,
+            "--compare-only" => options.compare_only = true,
             _ if !arg.starts_with('-') && options.file.is_none() => options.file = Some(arg.into()),
             _ => return None,
         }
     }
     Some(options)
+}
+
+/// The jobs made for a purpose, then random ones; none where there is no folder.
+fn jobs(options: &Options, seed: u64) -> Option<io::Result<()>> {
+    let count = options.count.unwrap_or(JOBS);
+    let cases = list::made()
+        .into_iter()
+        .chain(list::random(seed).take(count));
+    let start = Instant::now();
+    let counts = if options.compare_only {
+        offers::compare_all(cases)
+    } else {
+        let labels = options.labels;
+        let cases = cases.enumerate().map(move |(number, case)| {
+            if labels {
+                println!("{number} {}", case.label);
+            }
+            case
+        });
+        offers::write(options.out.as_ref()?, cases)
+    };
+    Some(counts.map(|counts| {
+        let seconds = start.elapsed().as_secs_f64();
+        print!("seed {seed}\n{}", counts.text());
+        println!("seconds {seconds:.1}");
+    }))
 }
 
 /// Runs the command; none where it is not understood.
@@ -60,6 +94,7 @@ fn run() -> Option<io::Result<()>> {
             let cases = families::cases(seed, options.count.unwrap_or(COUNT));
             families::write(&options.out?, &cases)
         }
+        "jobs" => jobs(&options, seed)?,
         "describe" => fs::read(options.file?).map(|bytes| println!("{}", describe::line(&bytes))),
         _ => return None,
     })

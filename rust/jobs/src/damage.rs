@@ -1,0 +1,353 @@
+//! Ways to damage a job, with what each has to be refused for.
+
+use crate::{
+    fonts,
+    layout::{Field, Kind, Written},
+    random::Random,
+};
+
+/// What is known of a job by how it was built, its fonts put aside: a font
+/// that is refused and stands before comes first.
+#[derive(Copy, Clone, PartialEq, Eq, Debug)]
+pub enum Expected {
+    Accepted,
+    /// The table's number and the field's position.
+    Refused(u32, usize),
+    Unknown,
+}
+
+use Expected::{Accepted, Refused, Unknown};
+
+/// Other bytes for one field.
+#[derive(Clone, PartialEq, Eq, Debug)]
+pub struct Way {
+    pub field: Field,
+    pub bytes: Vec<u8>,
+    pub expected: Expected,
+}
+
+/// Bits of no finite number.
+const NOT_FINITE: [u32; 7] = [
+    0x7f80_0000,
+    0xff80_0000,
+    0x7fc0_0000,
+    0xffc0_0000,
+    0x7f80_0001,
+    0xff80_0001,
+    0xffff_ffff,
+];
+
+/// Bits of finite numbers at the ends, both zeros among them.
+const FINITE: [u32; 6] = [0, 0x8000_0000, 1, 0x8000_0001, 0x7f7f_ffff, 0xff7f_ffff];
+
+/// Finite numbers that are no ratio: over 16 or below 0.
+const NO_RATIO: [u32; 6] = [
+    0x4180_0001,
+    0x8000_0001,
+    0xbf80_0000,
+    0x4188_0000,
+    0x7f7f_ffff,
+    0xff7f_ffff,
+];
+
+/// Ratios at the ends.
+const RATIO: [u32; 5] = [0, 0x8000_0000, 1, 0x417f_ffff, 0x4180_0000];
+
+/// Bits that a spare field must not hold.
+const NOT_ZERO: [u32; 7] = [
+    0x8000_0000,
+    1,
+    0x0001_0000,
+    0x0100_0000,
+    0x3f80_0000,
+    0x7fc0_0000,
+    0xff80_0000,
+];
+
+/// Every way that is kept for a field; none for a font file.
+pub fn ways(written: &Written, field: Field) -> Vec<Way> {
+    let mut out = Vec::new();
+    let mut add = |value: u32, expected: Expected| {
+        let bytes = value.to_be_bytes()[4 - field.size..].to_vec();
+        if bytes != written.bytes[field.at..field.at + field.size] {
+            out.push(Way {
+                field,
+                bytes,
+                expected,
+            });
+        }
+    };
+    let refused = |number: u32| Refused(number, field.at);
+    let present = written.bytes[field.at..field.at + field.size.min(4)]
+        .iter()
+        .fold(0u32, |value, byte| value << 8 | u32::from(*byte));
+    match field.kind {
+        Kind::Count(limit) => {
+            let limit = u32::from(limit);
+            for value in [limit + 1, limit + 2, limit | 0x8000, 0xffff] {
+                add(value, refused(19));
+            }
+            // More or fewer entries than there are.
+            for value in [present.saturating_sub(1), present + 1, 0, limit] {
+                if value <= limit {
+                    add(value, Unknown);
+                }
+            }
+        }
+        Kind::ByteCount => {
+            for value in [0, 1, present.saturating_sub(1), (present + 1).min(255), 255] {
+                add(value, Unknown);
+            }
+        }
+        Kind::Held => {
+            for value in [2, 3, 0x80, 0x81, 0xff] {
+                add(value, refused(20));
+            }
+            add(1 - present, Accepted);
+        }
+        Kind::Length => {
+            let left = (written.bytes.len() - field.at - 4) as u32;
+            for value in [left + 1, 0x7fff_ffff, 0x8000_0000, 0xffff_ffff] {
+                add(value, refused(18));
+            }
+            // A file without a whole header has a bad start.
+            for value in [0, 11] {
+                if value <= left {
+                    add(value, refused(21));
+                }
+            }
+            for value in [present.wrapping_sub(1), present + 1, left] {
+                if value <= left {
+                    add(value, Unknown);
+                }
+            }
+        }
+        Kind::File => {}
+        Kind::FaceNumber(faces) => {
+            let faces = u32::from(faces);
+            for value in [faces, faces + 1, 0x8000, 0xffff] {
+                add(value, refused(24));
+            }
+            for value in [0, faces - 1] {
+                add(value, Accepted);
+            }
+        }
+        Kind::Mask => {
+            for value in [8, 9, 0x0f, 0x10, 0x40, 0x80, 0xff, present | 8] {
+                add(value, refused(25));
+            }
+            for value in 0..8 {
+                add(value, Unknown);
+            }
+        }
+        Kind::StyleKind => {
+            for value in [4, 5, 7, 0x80, 0x83, 0xff] {
+                add(value, refused(25));
+            }
+            for value in 0..4 {
+                add(value, Unknown);
+            }
+        }
+        Kind::SpareKind => {
+            for value in [1, 2, 3, 4, 0x80, 0xff] {
+                add(value, refused(25));
+            }
+        }
+        Kind::Ratio => {
+            for value in NOT_FINITE.into_iter().chain(NO_RATIO) {
+                add(value, refused(26));
+            }
+            for value in RATIO {
+                add(value, Accepted);
+            }
+        }
+        Kind::Number => {
+            for value in NOT_FINITE {
+                add(value, refused(26));
+            }
+            for value in FINITE {
+                add(value, Accepted);
+            }
+        }
+        Kind::Spare => {
+            for value in NOT_ZERO {
+                add(value, refused(25));
+            }
+        }
+        Kind::Free => {
+            for value in [0, 1, 0xffff, 0xffff_ffff] {
+                add(value, Accepted);
+            }
+        }
+    }
+    out
+}
+
+/// The bytes with every way done, no two on one field, and what is known of
+/// them: the refusal that is met first.
+pub fn with_ways(written: &Written, ways: &[Way]) -> (Vec<u8>, Expected) {
+    let mut bytes = written.bytes.clone();
+    let mut ways: Vec<&Way> = ways.iter().collect();
+    ways.sort_by_key(|way| way.field.at);
+    let mut expected = Accepted;
+    for way in ways {
+        let (at, size) = (way.field.at, way.field.size);
+        bytes[at..at + size].copy_from_slice(&way.bytes);
+        if expected == Accepted {
+            expected = way.expected;
+        }
+    }
+    (bytes, expected)
+}
+
+/// The first `length` bytes: refused at the field that no longer fits.
+pub fn cut(written: &Written, length: usize) -> (Vec<u8>, Expected) {
+    let mut position = 0;
+    for field in &written.fields {
+        if field.kind != Kind::File {
+            position = field.at;
+        }
+        if field.at + field.size > length {
+            break;
+        }
+    }
+    (written.bytes[..length].to_vec(), Refused(18, position))
+}
+
+/// The same with more bytes after its end.
+pub fn with_more(written: &Written, more: &[u8]) -> (Vec<u8>, Expected) {
+    let mut bytes = written.bytes.clone();
+    bytes.extend(more);
+    (bytes, Refused(27, written.bytes.len()))
+}
+
+/// One of the ways at random, of a kind of field at random.
+fn random_way(r: &mut Random, written: &Written) -> Option<Way> {
+    let first = r.pick(&written.fields);
+    // Fonts and lists have many fields; the others are looked for.
+    let kind = match r.below(16) {
+        0 => Kind::Mask,
+        1 => Kind::Held,
+        2 => Kind::StyleKind,
+        3 => Kind::SpareKind,
+        4..=5 => Kind::Spare,
+        6..=7 => Kind::Ratio,
+        8..=9 => Kind::Number,
+        10 => Kind::Length,
+        11 => Kind::FaceNumber(u16::from_be_bytes([written.bytes[0], written.bytes[1]])),
+        12 => Kind::Count(256),
+        13 => Kind::Count(64),
+        _ => first.kind,
+    };
+    let fields: Vec<Field> = written
+        .fields
+        .iter()
+        .copied()
+        .filter(|field| field.kind == kind)
+        .collect();
+    let field = if fields.is_empty() {
+        first
+    } else {
+        r.pick(&fields)
+    };
+    let ways = ways(written, field);
+    if ways.is_empty() {
+        return None;
+    }
+    Some(ways[r.below(ways.len())].clone())
+}
+
+/// Where a cut falls: mostly near a field's start, else anywhere.
+fn random_length(r: &mut Random, written: &Written) -> usize {
+    let field = r.pick(&written.fields);
+    match r.below(4) {
+        0 => field.at,
+        1 => field.at + r.below(field.size + 1),
+        2 => (field.at + 1).min(written.bytes.len()),
+        _ => r.below(written.bytes.len()),
+    }
+    .min(written.bytes.len() - 1)
+}
+
+/// Damages a written job at random.
+pub fn random(r: &mut Random, written: &Written) -> (Vec<u8>, Expected) {
+    match r.below(16) {
+        0..=2 => {
+            let length = random_length(r, written);
+            cut(written, length)
+        }
+        3 => {
+            let more: Vec<u8> = (0..r.pick(&[1, 1, 2, 8, 40])).map(|_| r.byte()).collect();
+            with_more(written, &more)
+        }
+        4..=5 => {
+            let mut bytes = written.bytes.clone();
+            let at = r.below(bytes.len());
+            bytes[at] = match r.below(3) {
+                0 => bytes[at] ^ (1 << r.below(8)),
+                1 => bytes[at].wrapping_add(1),
+                _ => r.byte(),
+            };
+            (bytes, Unknown)
+        }
+        6..=7 => font(r, written),
+        8..=9 => {
+            let mut ways: Vec<Way> = Vec::new();
+            for _ in 0..r.within(2, 3) {
+                if let Some(way) = random_way(r, written)
+                    && ways.iter().all(|other| other.field.at != way.field.at)
+                {
+                    ways.push(way);
+                }
+            }
+            let (bytes, expected) = with_ways(written, &ways);
+            if r.chance(1, 2) {
+                return (bytes, expected);
+            }
+            // And a cut, before or after the damaged fields.
+            let damaged = Written {
+                bytes,
+                fields: written.fields.clone(),
+            };
+            let length = random_length(r, &damaged);
+            let (bytes, cut) = cut(&damaged, length);
+            let expected = match (expected, cut) {
+                // A length that lies past the end does so still.
+                (Refused(number, at), Refused(_, end)) if at < end => Refused(number, at),
+                // A file that is told to be short may lie before the cut.
+                (Refused(21, at), Refused(_, end)) if at == end => Unknown,
+                (Unknown, _) => Unknown,
+                (_, cut) => cut,
+            };
+            (bytes, expected)
+        }
+        _ => {
+            let ways: Vec<Way> = random_way(r, written).into_iter().collect();
+            with_ways(written, &ways)
+        }
+    }
+}
+
+/// Damages one font file, its length field kept true.
+fn font(r: &mut Random, written: &Written) -> (Vec<u8>, Expected) {
+    let files: Vec<Field> = written
+        .fields
+        .iter()
+        .copied()
+        .filter(|field| field.kind == Kind::File && field.size >= 12)
+        .collect();
+    if files.is_empty() {
+        return (written.bytes.clone(), Accepted);
+    }
+    let field = r.pick(&files);
+    let mut file = written.bytes[field.at..field.at + field.size].to_vec();
+    let tables = usize::from(u16::from_be_bytes([file[4], file[5]]));
+    // A font that is damaged already may count more tables than it has.
+    let tables = tables.min((file.len() - 12) / 16);
+    fonts::damage(r, &mut file, tables);
+    let mut bytes = written.bytes[..field.at - 4].to_vec();
+    bytes.extend((file.len() as u32).to_be_bytes());
+    bytes.extend(file);
+    bytes.extend(&written.bytes[field.at + field.size..]);
+    (bytes, Accepted)
+}

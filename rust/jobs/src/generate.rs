@@ -1,0 +1,398 @@
+//! Random jobs that keep the layout; boundaries and ties are common.
+
+use crate::{
+    bytes::{FixedAxis, START, Table, cmap, filler, font_with_gaps, fvar, head, os2, post},
+    fonts::{CLASSES, random_font},
+    layout::{Face, Job, Override, Request, Style},
+    numbers::{BANDS, angle, nearby, ratio, some, weight},
+    random::Random,
+};
+
+const NORMAL: Style = Style { kind: 0, angle: 0 };
+const ITALIC: Style = Style { kind: 1, angle: 0 };
+const UNSTATED: Style = Style { kind: 2, angle: 0 };
+
+fn stated(angle: f32) -> Style {
+    Style {
+        kind: 3,
+        angle: angle.to_bits(),
+    }
+}
+
+fn style(r: &mut Random) -> Style {
+    match r.below(8) {
+        0..=1 => NORMAL,
+        2 => ITALIC,
+        3 => UNSTATED,
+        _ => stated(angle(r)),
+    }
+}
+
+/// Values that the faces and requests of one job share, so that ties are common.
+struct Pools {
+    ratios: Vec<f32>,
+    styles: Vec<Style>,
+    weights: Vec<f32>,
+}
+
+fn pools(r: &mut Random) -> Pools {
+    let (ratios, styles, weights) = match r.below(5) {
+        0 => (1, 1, 6),
+        1 => (1, 6, 2),
+        2 => (5, 2, 2),
+        3 => (2, 4, 4),
+        _ => (2, 2, 2),
+    };
+    let mut pools = Pools {
+        ratios: some(r, 1, ratios, ratio),
+        styles: some(r, 1, styles, style),
+        weights: some(r, 1, weights, weight),
+    };
+    // Ratios of one whole percent, unstated beside 14, both zeros, defaults.
+    if r.chance(1, 6) {
+        pools.ratios.extend([0.875, 0.87109375]);
+    }
+    if r.chance(1, 5) {
+        pools.styles.extend([UNSTATED, stated(14.0)]);
+    }
+    if r.chance(1, 8) {
+        pools.styles.extend([stated(0.0), stated(-0.0)]);
+    }
+    if r.chance(1, 2) {
+        pools.ratios.push(1.0);
+        pools.styles.push(NORMAL);
+        pools.weights.push(400.0);
+    }
+    // Angles of one band or two, at one width.
+    if r.chance(1, 4) {
+        pools.ratios.truncate(1);
+        pools.styles = some(r, 2, 4, |r| {
+            let band = r.pick(&BANDS);
+            stated(r.pick(band))
+        });
+        if r.chance(1, 3) {
+            pools.styles.push(r.pick(&[NORMAL, ITALIC, UNSTATED]));
+        }
+    }
+    pools
+}
+
+/// How large the parts of a job are.
+#[derive(Copy, Clone, PartialEq)]
+enum Shape {
+    Small,
+    ManyFaces,
+    LongFamilies,
+    ManyFamilies,
+    ManyRequests,
+    LongLists,
+    ManyOverrides,
+}
+
+fn shape(r: &mut Random) -> Shape {
+    match r.below(200) {
+        0..=1 => Shape::ManyFaces,
+        2..=5 => Shape::LongFamilies,
+        6..=8 => Shape::ManyFamilies,
+        9..=10 => Shape::ManyRequests,
+        11..=12 => Shape::LongLists,
+        13..=14 => Shape::ManyOverrides,
+        _ => Shape::Small,
+    }
+}
+
+/// How the axes of one job's faces are spread.
+#[derive(Copy, Clone)]
+enum Spread {
+    Bare,
+    Slant,
+    Few,
+    Varying,
+    Many,
+}
+
+const TAGS: [[u8; 4]; 6] = [*b"wght", *b"wdth", *b"slnt", *b"ital", *b"opsz", *b"GRAD"];
+
+fn axis(r: &mut Random, tag: [u8; 4], pools: &Pools) -> FixedAxis {
+    let number = |r: &mut Random| match r.below(4) {
+        0 => r.bits(),
+        1 => ((r.pick(&pools.weights) as i32) << 16) as u32,
+        _ => (r.below(1001) as u32) << 16,
+    };
+    FixedAxis {
+        tag,
+        min: number(r),
+        default: number(r),
+        max: number(r),
+    }
+}
+
+fn axes(r: &mut Random, spread: Spread, pools: &Pools) -> Vec<FixedAxis> {
+    let tags: Vec<[u8; 4]> = match spread {
+        Spread::Bare => Vec::new(),
+        Spread::Slant if r.chance(1, 3) => vec![*b"slnt"],
+        Spread::Slant => Vec::new(),
+        Spread::Few => some(r, 0, 3, |r| r.pick(&TAGS)),
+        // Each of the four that synthesis sets, in half of the faces.
+        Spread::Varying => TAGS[..4]
+            .iter()
+            .copied()
+            .filter(|_| r.chance(1, 2))
+            .collect(),
+        Spread::Many => some(r, 0, 16, |r| r.pick(&TAGS)),
+    };
+    tags.into_iter().map(|tag| axis(r, tag, pools)).collect()
+}
+
+fn small_cmap(r: &mut Random) -> Vec<u8> {
+    if r.chance(2, 3) {
+        return cmap(&[(3, 1, 12)], 2);
+    }
+    let pairs = CLASSES.concat();
+    let count = r.within(1, 3);
+    let records: Vec<(u16, u16, u32)> = (0..count)
+        .map(|i| {
+            let (platform, encoding) = r.pick(&pairs);
+            (platform, encoding, (4 + 8 * count + i) as u32)
+        })
+        .collect();
+    cmap(&records, count + 1)
+}
+
+/// A font that is accepted, mostly; now and then any font of the builder's.
+fn font_file(r: &mut Random, spread: Spread, pools: &Pools, bare: bool) -> Vec<u8> {
+    if r.chance(1, 150) {
+        return random_font(r);
+    }
+    let mut tables: Vec<Table> = vec![(*b"cmap", small_cmap(r))];
+    if !bare && r.chance(3, 10) {
+        let weight = r.pick(&[100, 300, 400, 400, 500, 700, 900, 65535]);
+        let width = r.pick(&[0, 1, 3, 4, 5, 5, 5, 6, 8, 9]);
+        let selection = r.pick(&[0, 0, 0, 1, 0x0200, 0x0201]);
+        tables.push((*b"OS/2", os2(weight, width, selection)));
+        if selection == 0x0200 && r.chance(2, 3) {
+            let angle = r.pick(&[0x000e_0000, 0xfff2_0000, 0x0014_0000, 0, 0xfff4_8000]);
+            tables.push((*b"post", post(angle)));
+        }
+    } else if !bare && r.chance(1, 6) {
+        tables.push((*b"head", head(r.below(4) as u16)));
+    }
+    let mut axes = axes(r, spread, pools);
+    // Just within the limit, or over it.
+    if r.chance(1, 400) {
+        let count = r.within(15, 18);
+        axes = (0..count)
+            .map(|i| axis(r, TAGS[i % TAGS.len()], pools))
+            .collect();
+    }
+    if !axes.is_empty() || r.chance(1, 20) {
+        tables.push((*b"fvar", fvar(&axes)));
+    }
+    if r.chance(1, 20) {
+        tables.push((*b"name", filler(r.below(8), 11)));
+    }
+    let turn = r.below(tables.len());
+    tables.rotate_left(turn);
+    let start = r.pick(&[START, START, START, *b"OTTO", *b"true"]);
+    font_with_gaps(start, &tables, |_| r.pick(&[0, 0, 0, 0, 1, 3]))
+}
+
+fn override_entry(r: &mut Random, face: usize, pools: &Pools) -> Override {
+    let mask = r.pick(&[7, 7, 7, 7, 0, 1, 2, 3, 4, 5, 6]);
+    let pairs = if r.chance(1, 4) {
+        let most = r.pick(&[1, 2, 3, 6]);
+        some(r, 1, most, |r| {
+            let tag = if r.chance(1, 10) {
+                r.bits().to_be_bytes()
+            } else {
+                r.pick(&TAGS)
+            };
+            let value = r.pick(&pools.weights);
+            (tag, nearby(r, value).to_bits())
+        })
+    } else {
+        Vec::new()
+    };
+    Override {
+        face: face as u16,
+        ratio: (mask & 1 != 0).then(|| r.pick(&pools.ratios).to_bits()),
+        style: (mask & 2 != 0).then(|| r.pick(&pools.styles)),
+        weight: (mask & 4 != 0).then(|| r.pick(&pools.weights).to_bits()),
+        pairs,
+    }
+}
+
+fn overrides(r: &mut Random, shape: Shape, faces: usize, pools: &Pools) -> Vec<Override> {
+    if faces == 0 {
+        return Vec::new();
+    }
+    let mut out = Vec::new();
+    let part = r.pick(&[0, 2, 3, 4, 4]);
+    for face in 0..faces {
+        // Later ones for the same face win.
+        while r.chance(part, 5) && out.len() < 256 {
+            out.push(override_entry(r, face, pools));
+            if r.chance(4, 5) {
+                break;
+            }
+        }
+    }
+    if shape == Shape::ManyOverrides {
+        let count = r.pick(&[100, 255, 256]);
+        while out.len() < count {
+            let face = r.below(faces);
+            out.push(override_entry(r, face, pools));
+        }
+        let long = r.below(out.len());
+        out[long].pairs = (0..255)
+            .map(|_| (r.pick(&TAGS), weight(r).to_bits()))
+            .collect();
+    }
+    // In turn, or as it comes.
+    if r.chance(1, 2) {
+        for i in (1..out.len()).rev() {
+            out.swap(i, r.below(i + 1));
+        }
+    }
+    out
+}
+
+fn families(r: &mut Random, shape: Shape, faces: usize) -> Vec<Vec<u16>> {
+    let count = match shape {
+        Shape::ManyFamilies => r.pick(&[5, 20, 63, 64]),
+        Shape::LongLists => r.within(1, 3),
+        _ => r.pick(&[0, 1, 1, 1, 2, 2, 3, 4]),
+    };
+    let mut out = Vec::new();
+    for _ in 0..count {
+        let places = match shape {
+            _ if faces == 0 => 0,
+            Shape::LongFamilies | Shape::ManyFaces => {
+                let most = r.pick(&[12, 63, 64, 64]);
+                r.within(2, most)
+            }
+            Shape::LongLists => r.below(4),
+            _ => r.pick(&[0, 1, 2, 2, 3, 3, 4, 5, 6, 8]),
+        };
+        let turn = r.below(faces.max(1));
+        let family = match r.below(3) {
+            // In turn, from some face on, and around.
+            0 => (0..places)
+                .map(|i| ((turn + i) % faces.max(1)) as u16)
+                .collect(),
+            _ => (0..places).map(|_| r.below(faces) as u16).collect(),
+        };
+        out.push(family);
+    }
+    out
+}
+
+fn list(r: &mut Random, shape: Shape, families: usize, most: usize) -> Vec<u16> {
+    let count = match shape {
+        Shape::LongLists => r.pick(&[40, 254, 255]),
+        _ => r.below(most + 1),
+    };
+    (0..count)
+        .map(|_| match r.below(8) {
+            // Unknown, or just so.
+            0 => r.pick(&[families as u16, 63, 64, 255, 256, 65535]),
+            _ => r.below(families.max(1)) as u16,
+        })
+        .collect()
+}
+
+fn request(r: &mut Random, shape: Shape, families: usize, pools: &Pools) -> Request {
+    let ratio = match r.below(4) {
+        0 => ratio(r),
+        1 => {
+            let near = r.pick(&pools.ratios);
+            nearby(r, near).clamp(-0.0, 16.0)
+        }
+        _ => r.pick(&pools.ratios),
+    };
+    let style = match r.below(4) {
+        0 => r.pick(&pools.styles),
+        1 => match r.pick(&pools.styles) {
+            Style { kind: 3, angle } => stated(nearby(r, f32::from_bits(angle))),
+            _ => r.pick(&[NORMAL, ITALIC, UNSTATED, stated(14.0)]),
+        },
+        2 => r.pick(&[
+            NORMAL,
+            ITALIC,
+            UNSTATED,
+            stated(-14.0),
+            stated(4.0),
+            stated(-4.0),
+        ]),
+        _ => style(r),
+    };
+    let weight = match r.below(6) {
+        0..=1 => r.pick(&pools.weights),
+        2 => {
+            let near = r.pick(&pools.weights);
+            nearby(r, near)
+        }
+        3 => {
+            let near = r.pick(&pools.weights) + 200.0;
+            nearby(r, near)
+        }
+        4 => {
+            let edge = r.pick(&[400.0, 450.0, 500.0]);
+            nearby(r, edge)
+        }
+        _ => weight(r),
+    };
+    Request {
+        most: r.pick(&[0, 1, 2, 3, 8, 8, 8, 8, 65535, 65535, 65535]),
+        ratio: ratio.to_bits(),
+        style,
+        weight: weight.to_bits(),
+        families: list(r, shape, families, 4),
+        fallbacks: list(r, shape, families, 2),
+    }
+}
+
+/// A job that keeps the layout and the limits; one of its fonts may be refused.
+pub fn job(r: &mut Random) -> Job {
+    let shape = shape(r);
+    let pools = pools(r);
+    let spread = match r.below(24) {
+        0..=9 => Spread::Bare,
+        10..=14 => Spread::Slant,
+        15..=18 => Spread::Few,
+        19..=22 => Spread::Varying,
+        _ => Spread::Many,
+    };
+    let faces = match shape {
+        Shape::ManyFaces => r.pick(&[40, 100, 255, 256]),
+        _ if r.chance(1, 40) => 0,
+        _ => r.pick(&[1, 2, 2, 3, 3, 4, 4, 5, 6, 8, 12]),
+    };
+    // Many faces are small ones.
+    let spread = if shape == Shape::ManyFaces {
+        Spread::Bare
+    } else {
+        spread
+    };
+    let held = r.pick(&[1, 3, 4, 4]);
+    let faces: Vec<Face> = (0..faces)
+        .map(|_| Face {
+            held: r.chance(held, 4),
+            font: font_file(r, spread, &pools, shape == Shape::ManyFaces),
+        })
+        .collect();
+    let families = families(r, shape, faces.len());
+    let count = match shape {
+        Shape::ManyRequests => r.pick(&[30, 255, 256]),
+        Shape::LongLists => r.within(1, 2),
+        _ => r.pick(&[0, 1, 1, 2, 2, 3, 4, 6]),
+    };
+    Job {
+        overrides: overrides(r, shape, faces.len(), &pools),
+        requests: (0..count)
+            .map(|_| request(r, shape, families.len(), &pools))
+            .collect(),
+        faces,
+        families,
+    }
+}

@@ -1,0 +1,13 @@
+//! Seeded jobs, valid and damaged, and the small fonts they hold.
+//!
+//! Nothing here reads a job's meaning: what a job is refused for is known by
+//! how it was built, or not at all.
+
+pub mod bytes;
+pub mod damage;
+pub mod fonts;
+pub mod generate;
+pub mod layout;
+pub mod list;
+pub mod numbers;
+pub mod random;

@@ -1,0 +1,296 @@
+//! Sections 2 and 3: what a font file says of its face, and overrides.
+
+use crate::single::Single;
+
+pub type Tag = [u8; 4];
+
+#[derive(Copy, Clone, PartialEq, Eq, Debug)]
+pub enum Angle {
+    Unstated,
+    Degrees(Single),
+}
+
+impl Angle {
+    /// Unstated ranks as 14.
+    pub fn degrees(self) -> Single {
+        match self {
+            Self::Unstated => Single::new(14.0),
+            Self::Degrees(degrees) => degrees,
+        }
+    }
+}
+
+#[derive(Copy, Clone, PartialEq, Eq, Debug)]
+pub enum Style {
+    Normal,
+    Italic,
+    Oblique(Angle),
+}
+
+#[derive(Copy, Clone, PartialEq, Eq, Debug)]
+pub struct Attributes {
+    pub ratio: Single,
+    pub style: Style,
+    pub weight: Single,
+}
+
+impl Attributes {
+    pub const DEFAULT: Self = Self {
+        ratio: Single::new(1.0),
+        style: Style::Normal,
+        weight: Single::new(400.0),
+    };
+}
+
+#[derive(Copy, Clone, PartialEq, Eq, Debug)]
+pub struct Axis {
+    pub tag: Tag,
+    pub minimum: Single,
+    pub default: Single,
+    pub maximum: Single,
+}
+
+/// Where the best `cmap` subtable stands in the file, and its two flags.
+#[derive(Copy, Clone, PartialEq, Eq, Debug)]
+pub struct CharmapIndex {
+    pub offset: u32,
+    pub symbol: bool,
+    pub mac_roman: bool,
+}
+
+#[derive(Clone, PartialEq, Eq, Debug)]
+pub struct Font {
+    pub attributes: Attributes,
+    pub axes: Vec<Axis>,
+    pub charmap: CharmapIndex,
+}
+
+impl Font {
+    /// The first axis with the tag.
+    pub fn axis(&self, tag: &Tag) -> Option<&Axis> {
+        self.axes.iter().find(|axis| axis.tag == *tag)
+    }
+
+    pub fn has(&self, tag: &Tag) -> bool {
+        self.axis(tag).is_some()
+    }
+}
+
+/// Most axes of a face.
+pub const AXES: usize = 16;
+
+/// Reads a font file, or gives the number of its refusal: 21, 22 or 23.
+pub fn read(file: &[u8]) -> Result<Font, u32> {
+    let directory = directory(file).ok_or(21u32)?;
+    let charmap = charmap(file, &directory).ok_or(22u32)?;
+    let axes = axes(file, &directory);
+    if axes.len() > AXES {
+        return Err(23);
+    }
+    Ok(Font {
+        attributes: attributes(file, &directory),
+        axes,
+        charmap,
+    })
+}
+
+fn u16_at(bytes: &[u8], at: usize) -> u16 {
+    u16::from_be_bytes([bytes[at], bytes[at + 1]])
+}
+
+fn u32_at(bytes: &[u8], at: usize) -> u32 {
+    u32::from_be_bytes([bytes[at], bytes[at + 1], bytes[at + 2], bytes[at + 3]])
+}
+
+fn fixed_at(bytes: &[u8], at: usize) -> Single {
+    Single::from_fixed(u32_at(bytes, at) as i32)
+}
+
+fn tag_at(bytes: &[u8], at: usize) -> Tag {
+    [bytes[at], bytes[at + 1], bytes[at + 2], bytes[at + 3]]
+}
+
+/// One record of the directory; its checksum is not read.
+struct Record {
+    tag: Tag,
+    offset: u64,
+    length: u64,
+}
+
+/// The records, or none for a bad start or a directory past the file.
+fn directory(file: &[u8]) -> Option<Vec<Record>> {
+    if file.len() < 12 {
+        return None;
+    }
+    let start = tag_at(file, 0);
+    if start != [0x00, 0x01, 0x00, 0x00] && start != *b"OTTO" && start != *b"true" {
+        return None;
+    }
+    let count = usize::from(u16_at(file, 4));
+    if 12 + 16 * count > file.len() {
+        return None;
+    }
+    let mut records = Vec::new();
+    for i in 0..count {
+        let at = 12 + 16 * i;
+        records.push(Record {
+            tag: tag_at(file, at),
+            offset: u64::from(u32_at(file, at + 8)),
+            length: u64::from(u32_at(file, at + 12)),
+        });
+    }
+    Some(records)
+}
+
+/// The offset and the bytes of a table, absent as section 2 has it.
+fn table<'a>(
+    file: &'a [u8],
+    directory: &[Record],
+    tag: &Tag,
+    needed: u64,
+) -> Option<(u64, &'a [u8])> {
+    let record = directory.iter().find(|record| record.tag == *tag)?;
+    let end = record.offset + record.length;
+    if end > file.len() as u64 || record.length < needed {
+        return None;
+    }
+    Some((record.offset, &file[record.offset as usize..end as usize]))
+}
+
+fn attributes(file: &[u8], directory: &[Record]) -> Attributes {
+    if let Some((_, os2)) = table(file, directory, b"OS/2", 78) {
+        let selection = u16_at(os2, 62);
+        let style = if selection & (1 << 0) != 0 {
+            Style::Italic
+        } else if selection & (1 << 9) != 0 {
+            Style::Oblique(match table(file, directory, b"post", 32) {
+                Some((_, post)) => Angle::Degrees(fixed_at(post, 4)),
+                None => Angle::Unstated,
+            })
+        } else {
+            Style::Normal
+        };
+        let ratio = match u16_at(os2, 6) {
+            0 | 1 => 0.5,
+            2 => 0.625,
+            3 => 0.75,
+            4 => 0.875,
+            5 => 1.0,
+            6 => 1.125,
+            7 => 1.25,
+            8 => 1.5,
+            _ => 2.0,
+        };
+        return Attributes {
+            ratio: Single::new(ratio),
+            style,
+            weight: Single::new(f32::from(u16_at(os2, 4))),
+        };
+    }
+    let mut attributes = Attributes::DEFAULT;
+    if let Some((_, head)) = table(file, directory, b"head", 54) {
+        let mac_style = u16_at(head, 44);
+        if mac_style & (1 << 0) != 0 {
+            attributes.weight = Single::new(700.0);
+        }
+        if mac_style & (1 << 1) != 0 {
+            attributes.style = Style::Italic;
+        }
+    }
+    attributes
+}
+
+fn axes(file: &[u8], directory: &[Record]) -> Vec<Axis> {
+    let Some((_, fvar)) = table(file, directory, b"fvar", 16) else {
+        return Vec::new();
+    };
+    let offset = usize::from(u16_at(fvar, 4));
+    let count = usize::from(u16_at(fvar, 8));
+    let size = usize::from(u16_at(fvar, 10));
+    if size != 20 || offset + 20 * count > fvar.len() {
+        return Vec::new();
+    }
+    let mut axes = Vec::new();
+    for i in 0..count {
+        let at = offset + 20 * i;
+        axes.push(Axis {
+            tag: tag_at(fvar, at),
+            minimum: fixed_at(fvar, at + 4),
+            default: fixed_at(fvar, at + 8),
+            maximum: fixed_at(fvar, at + 12),
+        });
+    }
+    axes
+}
+
+/// The class of a platform and encoding, best first; none for other pairs.
+fn class(platform: u16, encoding: u16) -> Option<u8> {
+    match (platform, encoding) {
+        (3, 10) | (0, 4) | (0, 6) => Some(1),
+        (3, 1) | (0, 0) | (0, 1) | (0, 2) | (0, 3) => Some(2),
+        (3, 0) => Some(3),
+        (1, 0) => Some(4),
+        _ => None,
+    }
+}
+
+fn charmap(file: &[u8], directory: &[Record]) -> Option<CharmapIndex> {
+    let (start, cmap) = table(file, directory, b"cmap", 4)?;
+    let mut best: Option<(u8, u64)> = None;
+    for i in 0..usize::from(u16_at(cmap, 2)) {
+        let at = 4 + 8 * i;
+        if at + 8 > cmap.len() {
+            break;
+        }
+        let offset = u64::from(u32_at(cmap, at + 4));
+        if offset + 2 > cmap.len() as u64 {
+            continue;
+        }
+        if let Some(class) = class(u16_at(cmap, at), u16_at(cmap, at + 2))
+            && best.is_none_or(|(earlier, _)| class < earlier)
+        {
+            best = Some((class, offset));
+        }
+    }
+    let (class, offset) = best?;
+    Some(CharmapIndex {
+        offset: (start + offset) as u32,
+        symbol: class == 3,
+        mac_roman: class == 4,
+    })
+}
+
+/// What an override gives; none is an attribute that it leaves.
+#[derive(Clone, PartialEq, Eq, Debug)]
+pub struct Override {
+    pub ratio: Option<Single>,
+    pub style: Option<Style>,
+    pub weight: Option<Single>,
+    pub axes: Vec<(Tag, Single)>,
+}
+
+pub fn apply_override(font: &mut Font, given: &Override) {
+    let own = &mut font.attributes;
+    own.ratio = given.ratio.unwrap_or(own.ratio);
+    own.style = given.style.unwrap_or(own.style);
+    own.weight = given.weight.unwrap_or(own.weight);
+    for (tag, value) in &given.axes {
+        if let Some(axis) = font.axes.iter_mut().find(|axis| axis.tag == *tag) {
+            axis.default = *value;
+        }
+    }
+}
+
+/// Replaces only attributes that equal the defaults; no part of a job.
+pub fn maybe_override_attributes(font: &mut Font, given: &Attributes) {
+    let own = &mut font.attributes;
+    if own.ratio == Attributes::DEFAULT.ratio {
+        own.ratio = given.ratio;
+    }
+    if own.style == Attributes::DEFAULT.style {
+        own.style = given.style;
+    }
+    if own.weight == Attributes::DEFAULT.weight {
+        own.weight = given.weight;
+    }
+}

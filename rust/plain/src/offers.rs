@@ -1,0 +1,134 @@
+//! Section 6: the offers of a request, the offer call and the lines of section 7.
+
+use std::fmt::Write as _;
+
+use crate::{
+    font::{CharmapIndex, Font},
+    job::{self, Job, Request},
+    matching,
+    synthesis::{self, Synthesis},
+};
+
+/// Bytes of the output.
+pub const OUTPUT: usize = 40;
+
+#[derive(Clone, PartialEq, Eq, Debug)]
+pub struct Offer {
+    pub family: u16,
+    pub place: u16,
+    pub synthesis: Synthesis,
+    pub charmap: CharmapIndex,
+}
+
+impl Offer {
+    /// The 40 bytes of the output.
+    pub fn record(&self) -> [u8; OUTPUT] {
+        let mut out = [0; OUTPUT];
+        out[0..2].copy_from_slice(&self.family.to_be_bytes());
+        out[2..4].copy_from_slice(&self.place.to_be_bytes());
+        out[4] = u8::from(self.synthesis.embolden);
+        out[5] = self.synthesis.skew as u8;
+        out[6] = self.synthesis.settings.len() as u8;
+        for (i, (tag, value)) in self.synthesis.settings.iter().enumerate() {
+            let at = 8 + 8 * i;
+            out[at..at + 4].copy_from_slice(tag);
+            out[at + 4..at + 8].copy_from_slice(&value.0.to_be_bytes());
+        }
+        out[32..36].copy_from_slice(&self.charmap.offset.to_be_bytes());
+        out[36] = u8::from(self.charmap.symbol);
+        out[37] = u8::from(self.charmap.mac_roman);
+        out
+    }
+}
+
+/// The offers of a request, cut after its most.
+pub fn offers(job: &Job, request: &Request) -> Vec<Offer> {
+    let mut out = Vec::new();
+    for family in request.families.iter().chain(&request.fallbacks) {
+        if let Some(places) = job.families.get(usize::from(*family)) {
+            offers_of_family(job, request, *family, places, &mut out);
+        }
+    }
+    out.truncate(usize::from(request.most));
+    out
+}
+
+fn offers_of_family(
+    job: &Job,
+    request: &Request,
+    family: u16,
+    places: &[u16],
+    out: &mut Vec<Offer>,
+) {
+    let held = |place: usize| job.faces[usize::from(places[place])].held;
+    let fonts: Vec<&Font> = places
+        .iter()
+        .map(|face| &job.faces[usize::from(*face)].font)
+        .collect();
+    if fonts.is_empty() {
+        return;
+    }
+    let mut offered = matching::equal_list(&fonts, &request.attributes, true);
+    offered.retain(|place| held(*place));
+    let default = matching::default(&fonts);
+    if held(default) && !offered.contains(&default) {
+        offered.push(default);
+    }
+    for place in offered {
+        out.push(Offer {
+            family,
+            place: place as u16,
+            synthesis: synthesis::synthesis(fonts[place], &request.attributes),
+            charmap: fonts[place].charmap,
+        });
+    }
+}
+
+/// The offer call: 0 with the 40 bytes written, or 1 or a refusal's number
+/// with nothing written.
+pub fn offer(job: &[u8], request: u32, number: u32, out: &mut [u8]) -> u32 {
+    if out.len() != OUTPUT {
+        return 16;
+    }
+    let job = match job::read(job) {
+        Ok(job) => job,
+        Err(refusal) => return refusal.number,
+    };
+    let Some(request) = job.requests.get(request as usize) else {
+        return 28;
+    };
+    match offers(&job, request).get(number as usize) {
+        Some(offer) => {
+            out.copy_from_slice(&offer.record());
+            0
+        }
+        None => 1,
+    }
+}
+
+/// What section 7's program prints for a job, of whatever length.
+pub fn text(bytes: &[u8]) -> String {
+    let job = match job::read(bytes) {
+        Ok(job) => job,
+        Err(refusal) => return format!("refused {} {}\n", refusal.number, refusal.position),
+    };
+    let mut text = format!("requests {}\n", job.requests.len());
+    for (number, request) in job.requests.iter().enumerate() {
+        for offer in offers(&job, request) {
+            let synthesis = &offer.synthesis;
+            let _ = write!(
+                text,
+                "{number} {} {} {} {}",
+                offer.family,
+                offer.place,
+                if synthesis.embolden { 'b' } else { '-' },
+                synthesis.skew,
+            );
+            for (tag, value) in &synthesis.settings {
+                let _ = write!(text, " {}={:08x}", tag.escape_ascii(), value.0);
+            }
+            text.push('\n');
+        }
+    }
+    text
+}
