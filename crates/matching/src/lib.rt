@@ -1,0 +1,4 @@
+// Matching: the order of faces, the choice, the equal list, the default, and synthesis.
+pub mod rank;
+pub mod order;
+pub mod matching;
