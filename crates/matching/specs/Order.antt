@@ -45,7 +45,6 @@ fiveHundred = orderKey (single 500)
 
 -- "Unstated ranks as 14"
 unfoldable pub angle : ℕ → ℕ
-unfolding fourteen
 angle s = cond (eqb s 2) fourteen s
 
 unfoldable pub oblique : ℕ → Bool
@@ -61,12 +60,10 @@ widthStanding w x =
 -- The three requests below speak of a style s that is not the requested one.
 -- "Normal: x ≥ 0 up; italic; x < 0 down."
 unfoldable pub normalStanding : ℕ → Standing
-unfolding angle zeroAngle
 normalStanding s = cond (eqb s 1) (Up 2 0) (cond (leb zeroAngle (angle s)) (Up 1 (angle s)) (Down 3 (angle s)))
 
 -- "Italic: x ≥ 14 up; 0 < x < 14 down; x < 0 down; the rest by place."
 unfoldable pub italicStanding : ℕ → Standing
-unfolding angle oblique zeroAngle fourteen
 italicStanding s =
     cond (oblique s && leb fourteen (angle s))
     (Up 1 (angle s))
@@ -77,7 +74,6 @@ italicStanding s =
 -- "Every oblique then: synthesis off: italic; the other side, zero included (a ≥ 0: x ≤ 0 down; a < 0: x ≥ 0 up); normal.
 -- On, without a slant axis at that width: normal; the rest by place. On, with one: no face."
 unfoldable pub otherStanding : Bool → Bool → ℕ → ℕ → Standing
-unfolding angle zeroAngle
 otherStanding false slant a s =
     cond (eqb s 1)
     (Up 3 0)
@@ -87,7 +83,6 @@ otherStanding true true a s = Nowhere
 
 -- "Oblique a ≥ 14: x ≥ a up; 0 < x < a down. For 0 ≤ a < 14 these two groups change turns."
 unfoldable pub rightStanding : Bool → Bool → ℕ → ℕ → Standing
-unfolding angle oblique zeroAngle fourteen otherStanding
 rightStanding synthesis slant a s =
     cond (oblique s && leb a (angle s))
     (Up (cond (leb fourteen a) 1 2) (angle s))
@@ -97,7 +92,6 @@ rightStanding synthesis slant a s =
 
 -- "Oblique −14 < a < 0: a < x < 0 up; x ≤ a down. For a ≤ −14 these change turns."
 unfoldable pub leftStanding : Bool → Bool → ℕ → ℕ → Standing
-unfolding angle oblique zeroAngle minusFourteen otherStanding
 leftStanding synthesis slant a s =
     cond (oblique s && leb (angle s) a)
     (Down (cond (ltb minusFourteen a) 2 1) (angle s))
@@ -107,7 +101,6 @@ leftStanding synthesis slant a s =
 
 -- "The equal style is the first group, then these". `slant` says whether there is a slant axis at that width; w is the requested style.
 unfoldable pub styleStanding : Bool → Bool → ℕ → ℕ → Standing
-unfolding normalStanding italicStanding rightStanding leftStanding angle zeroAngle
 styleStanding synthesis slant w s =
     cond (eqb s w)
     (Up 0 0)
@@ -120,7 +113,6 @@ styleStanding synthesis slant w s =
 -- "Weight w, among faces of the chosen style: equal first, earliest place. For 400 ≤ w ≤ 500: w to 500 up; below w down; above 500 up.
 -- Under 400: below down; above up. Over 500: above up; below down."
 unfoldable pub weightStanding : ℕ → ℕ → Standing
-unfolding fourHundred fiveHundred
 weightStanding w x =
     cond (eqb x w)
     (Up 0 x)
@@ -136,68 +128,62 @@ faceOfLists percents styles weights slants i =
     record { percent = getD percents i 0; style = getD styles i 0; weight = getD weights i 0; slant = getD slants i false }
 
 unfoldable pub familyOfLists : List ℕ → List ℕ → List ℕ → List Bool → ℕ → Family
-unfolding faceOfLists
 familyOfLists percents styles weights slants n = record { count = n; face = faceOfLists percents styles weights slants }
 
-module _ (family : Family) (request : Request) where
+module _ (family : Family) where
   -- the face at place j has the percent of the one at place i; and the same style besides
   unfoldable pub samePercent : ℕ → ℕ → Bool
   samePercent i j = eqb (family .face j .percent) (family .face i .percent)
 
   unfoldable pub bears : ℕ → ℕ → Bool
-  unfolding samePercent
   bears i j = samePercent i j && eqb (family .face j .style) (family .face i .style)
 
   -- "a slant axis (`slnt`) at that width"
   unfoldable pub slantAt : ℕ → Bool
-  unfolding samePercent some
   slantAt i = some (λ j. samePercent i j && family .face j .slant) (family .count)
 
+-- Demand 3: "an angle on its side (unstated counting as 14 in both; above zero for a request of zero or more, below zero for one under zero)"
+unfoldable pub onSide : ℕ → ℕ → Bool
+onSide w s =
+    oblique s
+    && cond (leb zeroAngle (angle w)) (ltb zeroAngle (angle s)) (ltb (angle s) zeroAngle)
+
+module _ (family : Family) (request : Request) where
   -- how the face at place i stands in width, in style as ranked at its percent, and in weight
   unfoldable pub inWidth : ℕ → Standing
-  unfolding widthStanding
   inWidth i = widthStanding (request .percent) (family .face i .percent)
 
   unfoldable pub inStyle : ℕ → Standing
-  unfolding styleStanding slantAt
-  inStyle i = styleStanding (request .synthesis) (slantAt i) (request .style) (family .face i .style)
+  inStyle i = styleStanding (request .synthesis) (slantAt family i) (request .style) (family .face i .style)
 
   unfoldable pub inWeight : ℕ → Standing
-  unfolding weightStanding
   inWeight i = weightStanding (request .weight) (family .face i .weight)
 
   -- "Styles of equal angle rank by the earliest face bearing them where up, by the latest where down; 'by place' ranks styles by their earliest face."
   unfoldable pub bearerOf : Standing → ℕ → ℕ
-  unfolding first last bears
-  bearerOf (Up t x) i = first (bears i) (family .count)
-  bearerOf (Down t x) i = last (bears i) (family .count)
+  bearerOf (Up t x) i = first (bears family i) (family .count)
+  bearerOf (Down t x) i = last (bears family i) (family .count)
   bearerOf Nowhere i = 0
 
   unfoldable pub bearer : ℕ → ℕ
-  unfolding bearerOf inStyle
   bearer i = bearerOf (inStyle i) i
 
   -- "A face in no group"
   unfoldable pub hasGroup : ℕ → Bool
-  unfolding grouped inStyle
   hasGroup i = grouped (inStyle i)
 
   unfoldable pub widthBefore : ℕ → ℕ → Bool
-  unfolding before inWidth
   widthBefore i j = before (inWidth i) 0 (inWidth j) 0
 
   unfoldable pub styleBefore : ℕ → ℕ → Bool
-  unfolding before inStyle bearer
   styleBefore i j = before (inStyle i) (bearer i) (inStyle j) (bearer j)
 
   unfoldable pub weightBefore : ℕ → ℕ → Bool
-  unfolding before inWeight
   weightBefore i j = before (inWeight i) i (inWeight j) j
 
   -- "Of two faces, the first difference in percent, in having a group, in style as ranked at that percent, in weight or in place, as ranked above, says which
   -- stands before; two of one percent without a group are unordered." Having a group is part of `before`, and so is place, as the end of the weight's ranking.
   unfoldable pub standsBefore : ℕ → ℕ → Bool
-  unfolding widthBefore styleBefore weightBefore hasGroup
   standsBefore i j =
       widthBefore i j
       || (not (widthBefore j i)
@@ -205,33 +191,22 @@ module _ (family : Family) (request : Request) where
 
   -- Demand 3: a chosen face "stands before every other face"; it is one that has a group.
   unfoldable pub standsFirst : ℕ → Bool
-  unfolding every standsBefore hasGroup
   standsFirst i = hasGroup i && every (λ j. eqb j i || standsBefore i j) (family .count)
 
   -- The choice: "No face for an empty family; place 0 for one face. For two or more" the place that stands first. The count stands for no face.
   unfoldable pub choice : ℕ
-  unfolding first standsFirst
   choice = cond (ltb (family .count) 2) 0 (first standsFirst (family .count))
 
   -- "the chosen width (the first-ranked percent)": the place of a face whose percent none stands before
   unfoldable pub chosenWidth : ℕ
-  unfolding first every widthBefore
   chosenWidth = first (λ i. every (λ j. not (widthBefore j i)) (family .count)) (family .count)
-
-  -- Demand 3: "an angle on its side (unstated counting as 14 in both; above zero for a request of zero or more, below zero for one under zero)"
-  unfoldable pub onSide : ℕ → ℕ → Bool
-  unfolding oblique angle zeroAngle
-  onSide w s =
-      oblique s
-      && cond (leb zeroAngle (angle w)) (ltb zeroAngle (angle s)) (ltb (angle s) zeroAngle)
 
   -- Demand 3: "no face is chosen exactly when an oblique is requested with synthesis on, and at the chosen width no face has that style, none has an angle on its
   -- side, and some face has a slant axis."
   unfoldable pub emptyCase : Bool
-  unfolding oblique some samePercent onSide chosenWidth slantAt
   emptyCase =
       oblique (request .style)
       && (request .synthesis
-      && (not (some (λ j. samePercent chosenWidth j && eqb (family .face j .style) (request .style)) (family .count))
-      && (not (some (λ j. samePercent chosenWidth j && onSide (request .style) (family .face j .style)) (family .count))
-      && slantAt chosenWidth)))
+      && (not (some (λ j. samePercent family chosenWidth j && eqb (family .face j .style) (request .style)) (family .count))
+      && (not (some (λ j. samePercent family chosenWidth j && onSide (request .style) (family .face j .style)) (family .count))
+      && slantAt family chosenWidth)))

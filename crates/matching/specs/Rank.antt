@@ -13,7 +13,6 @@ lower x p y q = ltb x y || (eqb x y && ltb p q)
 -- `Up t x` is the order number x in the group of turn t, which ascends; `Down t x` in one that descends.
 -- No ranking has two groups of one turn; if one had, the ascending would be first.
 unfoldable pub before : Standing → ℕ → Standing → ℕ → Bool
-unfolding lower
 before (Up t x) p (Up u y) q = ltb t u || (eqb t u && lower x p y q)
 before (Up t x) p (Down u y) q = leb t u
 before (Up t x) p Nowhere q = true

@@ -1,59 +1,74 @@
+use Prim.Native.Nat.{ℕ, _-_, _^_, _≤_}
+use mathlib.Core.Path.{_≡_, refl, sym, _∙_, ap}
+use mathlib.Core.Bool.{Bool, true, false, cond, _&&_}
+use mathlib.Core.List.{List}
+use native.Mathlib.Omega.{arith}
+use lib.Dec.{eqb}
+use lib.ListN.{getD}
+use borrow.Author.Needs.{needs}
+use borrow.Author.Count.{below-more}
+use denote.Ref.{now}
+use Rattle.font.specs.First.{leastBelow}
+use Rattle.matching.specs.declared.order.Request.{Request}
+use Rattle.matching.specs.declared.rank.Standing.{Standing}
+use Rattle.matching.specs.Packed.{packed, Short}
+use Rattle.matching.specs.Order.{widthStanding, styleStanding, weightStanding}
+use Rattle.matching.proofs.Below.{least-more}
 use Rattle.matching.proofs.matching.style_stage.Statement.{statement}
 use Rattle.matching.proofs.matching.style_stage.Tie as tie
-use Rattle.matching.proofs.matching.style_stage.Reads as reads
-use Rattle.matching.proofs.matching.style_stage.Lts as lts
-use Rattle.matching.proofs.matching.style_rank.Reads as style-rank-reads
-use Rattle.matching.proofs.rank.lower.Reads as lower-reads
+
+abbrev ranks : List ℕ → List ℕ → ℕ → Bool → Request → ℕ → ℕ
+ranks percents styles percent slant request j =
+    cond (eqb (getD percents j 0) percent)
+    (packed (styleStanding (request .synthesis) slant (request .style) (getD styles j 0)) j)
+    (2 ^ 64 - 1)
 
 abbrev Inv-loop : tie.InvT-loop
-Inv-loop percents styles count percent slant request best₀ i₀ best i = ?
+Inv-loop percents styles count percent slant request best₀ i₀ best i = (i ≤ count) × (best ≡ leastBelow (2 ^ 64 - 1) (ranks percents styles percent slant request) i) × Short styles i
 
 abbrev μ-loop : tie.MeasureT-loop
-μ-loop percents styles count percent slant request best₀ i₀ best i = ?
+μ-loop percents styles count percent slant request best₀ i₀ best i = count - i
 
--- src/matching.rt:76:5
 loop-holds : tie.Need-loop-holds Inv-loop μ-loop
-loop-holds c = ?
+unfolding leastBelow
+loop-holds c = (omega arith, refl, λ j h. absurd (omega arith))
 
--- src/matching.rt:77:45
 mul-style-rank : tie.Need-mul-style-rank Inv-loop μ-loop
-mul-style-rank c = ?
+mul-style-rank c = search needs
 
--- src/matching.rt:77:45
 element-copy-out-style-rank : tie.Need-element-copy-out-style-rank Inv-loop μ-loop
-element-copy-out-style-rank c = ?
+element-copy-out-style-rank c = omega arith
 
--- src/matching.rt:77:85
 mul-style-rank-2 : tie.Need-mul-style-rank-2 Inv-loop μ-loop
-mul-style-rank-2 c = ?
+mul-style-rank-2 c = search needs
 
--- src/matching.rt:77:85
 element-copy-out-style-rank-2 : tie.Need-element-copy-out-style-rank-2 Inv-loop μ-loop
-element-copy-out-style-rank-2 c = ?
+element-copy-out-style-rank-2 c = omega arith
 
--- src/matching.rt:77:34
 style-rank-requires : tie.Need-style-rank-requires Inv-loop μ-loop
-style-rank-requires c κs = ?
+style-rank-requires c κs = omega arith
 
--- src/matching.rt:77:9
 lower-requires : tie.Need-lower-requires Inv-loop μ-loop
-lower-requires c κs = ?
+lower-requires c κs = search needs
 
--- src/matching.rt:78:9
 add-i : tie.Need-add-i Inv-loop μ-loop
-add-i c = ?
+add-i c = omega arith
 
--- src/matching.rt:76:5
 loop-less : tie.Need-loop-less Inv-loop μ-loop
-loop-less c = ?
+loop-less c = omega arith
 
--- src/matching.rt:76:5
 loop-again : tie.Need-loop-again Inv-loop μ-loop
-loop-again c = ?
+loop-again c =
+    ( omega arith
+    , least-more (2 ^ 64 - 1) (ranks (now (c .before .before .before .before .before .before .args .percents)) (now (c .before .before .before .before .before .before .args .styles)) (c .before .before .before .before .before .before .args .percent) (c .before .before .before .before .before .before .args .slant) (c .before .before .before .before .before .before .args .request)) (c .before .before .before .before .before .loop .i) (c .before .before .before .before .before .loop .inv .1) (c .before .style-rank .ensures .0) (c .lower .ensures)
+    , below-more _ _ (c .before .before .before .before .before .loop .inv .2) (c .before .style-rank .ensures .1)
+    )
 
--- src/matching.rt:70:1
 returns : tie.Need-returns Inv-loop μ-loop
-returns c = ?
+returns c =
+    ( c .before .loop .inv .1 ∙ ap (leastBelow (2 ^ 64 - 1) (ranks (now (c .before .before .args .percents)) (now (c .before .before .args .styles)) (c .before .before .args .percent) (c .before .before .args .slant) (c .before .before .args .request))) (omega arith)
+    , λ j h. c .before .loop .inv .2 j (omega arith)
+    )
 
 pub style-stage-spec : {M : Type 1} → statement M
 style-stage-spec =

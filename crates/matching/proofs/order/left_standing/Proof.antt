@@ -1,46 +1,42 @@
+use borrow.Author.Tests.{lt-ltb, le-ltb, le-leb, lt-leb, eq-eqb, ne-eqb}
+use Rattle.matching.proofs.Numbers.{zero-angle, fourteen-is, minus-fourteen, four-hundred, five-hundred}
+use Rattle.matching.specs.Order.{leftStanding, oblique}
 use borrow.Author.Needs.{needs}
 use Rattle.matching.proofs.order.left_standing.Statement.{statement}
 use Rattle.matching.proofs.order.left_standing.Tie as tie
-use Rattle.matching.proofs.order.left_standing.Reads as reads
-use Rattle.matching.proofs.order.left_standing.Lts as lts
-use Rattle.matching.proofs.order.angle_of.Reads as angle-of-reads
-use Rattle.matching.proofs.order.other_standing.Reads as other-standing-reads
 
--- src/order.rt:134:9
 other-standing-requires : tie.Need-other-standing-requires
 other-standing-requires c κs = search needs
 
--- src/order.rt:134:9
 returns : tie.Need-returns
-returns c = ?
+unfolding leftStanding oblique
+returns c = simp (c .other-standing .ensures, lt-leb _ _ (c .before .if1 .taken))
 
--- src/order.rt:136:9
 angle-of-requires : tie.Need-angle-of-requires
 angle-of-requires c κs = search needs
 
--- src/order.rt:139:13
 returns-2 : tie.Need-returns-2
-returns-2 c = ?
+unfolding leftStanding oblique
+returns-2 c = simp (minus-fourteen, ← c .before .before .angle-of .ensures, le-leb _ _ (c .before .before .before .if1 .left), le-leb _ _ (c .before .if2 .taken), lt-ltb _ _ (c .if3 .taken))
 
--- src/order.rt:141:9
 returns-3 : tie.Need-returns-3
-returns-3 c = ?
+unfolding leftStanding oblique
+returns-3 c = simp (minus-fourteen, ← c .before .before .angle-of .ensures, le-leb _ _ (c .before .before .before .if1 .left), le-leb _ _ (c .before .if2 .taken), le-ltb _ _ (c .if3 .left))
 
--- src/order.rt:145:13
 returns-4 : tie.Need-returns-4
-returns-4 c = ?
+unfolding leftStanding oblique
+returns-4 c = simp (zero-angle, minus-fourteen, ← c .before .before .before .angle-of .ensures, le-leb _ _ (c .before .before .before .before .if1 .left), lt-leb _ _ (c .before .before .if2 .left), lt-ltb _ _ (c .before .if4 .taken), lt-ltb _ _ (c .if5 .taken))
 
--- src/order.rt:147:9
 returns-5 : tie.Need-returns-5
-returns-5 c = ?
+unfolding leftStanding oblique
+returns-5 c = simp (zero-angle, minus-fourteen, ← c .before .before .before .angle-of .ensures, le-leb _ _ (c .before .before .before .before .if1 .left), lt-leb _ _ (c .before .before .if2 .left), lt-ltb _ _ (c .before .if4 .taken), le-ltb _ _ (c .if5 .left))
 
--- src/order.rt:149:5
 other-standing-requires-2 : tie.Need-other-standing-requires-2
 other-standing-requires-2 c κs = search needs
 
--- src/order.rt:130:1
 returns-6 : tie.Need-returns-6
-returns-6 c = ?
+unfolding leftStanding oblique
+returns-6 c = simp (zero-angle, c .other-standing2 .ensures, ← c .before .before .before .angle-of .ensures, le-leb _ _ (c .before .before .before .before .if1 .left), lt-leb _ _ (c .before .before .if2 .left), le-ltb _ _ (c .before .if4 .left))
 
 pub left-standing-spec : {M : Type 1} → statement M
 left-standing-spec =

@@ -1,53 +1,44 @@
+use borrow.Author.Tests.{lt-ltb, le-ltb, le-leb, lt-leb, eq-eqb, ne-eqb}
+use Rattle.matching.proofs.Numbers.{zero-angle, fourteen-is, minus-fourteen, four-hundred, five-hundred}
+use Rattle.matching.specs.Order.{styleStanding}
 use borrow.Author.Needs.{needs}
 use Rattle.matching.proofs.order.style_standing.Statement.{statement}
 use Rattle.matching.proofs.order.style_standing.Tie as tie
-use Rattle.matching.proofs.order.style_standing.Reads as reads
-use Rattle.matching.proofs.order.style_standing.Lts as lts
-use Rattle.matching.proofs.order.angle_of.Reads as angle-of-reads
-use Rattle.matching.proofs.order.italic_standing.Reads as italic-standing-reads
-use Rattle.matching.proofs.order.left_standing.Reads as left-standing-reads
-use Rattle.matching.proofs.order.normal_standing.Reads as normal-standing-reads
-use Rattle.matching.proofs.order.right_standing.Reads as right-standing-reads
 
--- src/order.rt:157:9
 returns : tie.Need-returns
-returns c = ?
+unfolding styleStanding
+returns c = simp (eq-eqb _ _ (c .if1 .taken))
 
--- src/order.rt:160:9
 normal-standing-requires : tie.Need-normal-standing-requires
 normal-standing-requires c κs = search needs
 
--- src/order.rt:160:9
 returns-2 : tie.Need-returns-2
-returns-2 c = ?
+unfolding styleStanding
+returns-2 c = simp (c .normal-standing .ensures, ne-eqb _ _ (c .before .before .if1 .left), eq-eqb _ _ (c .before .if2 .taken))
 
--- src/order.rt:163:9
 italic-standing-requires : tie.Need-italic-standing-requires
 italic-standing-requires c κs = search needs
 
--- src/order.rt:163:9
 returns-3 : tie.Need-returns-3
-returns-3 c = ?
+unfolding styleStanding
+returns-3 c = simp (c .italic-standing .ensures, ne-eqb _ _ (c .before .before .before .if1 .left), ne-eqb _ _ (c .before .before .if2 .left), eq-eqb _ _ (c .before .if3 .taken))
 
--- src/order.rt:165:9
 angle-of-requires : tie.Need-angle-of-requires
 angle-of-requires c κs = search needs
 
--- src/order.rt:167:9
 right-standing-requires : tie.Need-right-standing-requires
 right-standing-requires c κs = search needs
 
--- src/order.rt:167:9
 returns-4 : tie.Need-returns-4
-returns-4 c = ?
+unfolding styleStanding
+returns-4 c = simp (zero-angle, c .right-standing .ensures, ← c .before .before .angle-of .ensures, ne-eqb _ _ (c .before .before .before .before .before .if1 .left), ne-eqb _ _ (c .before .before .before .before .if2 .left), ne-eqb _ _ (c .before .before .before .if3 .left), le-leb _ _ (c .before .if4 .taken))
 
--- src/order.rt:169:5
 left-standing-requires : tie.Need-left-standing-requires
 left-standing-requires c κs = search needs
 
--- src/order.rt:153:1
 returns-5 : tie.Need-returns-5
-returns-5 c = ?
+unfolding styleStanding
+returns-5 c = simp (zero-angle, c .left-standing .ensures, ← c .before .before .angle-of .ensures, ne-eqb _ _ (c .before .before .before .before .before .if1 .left), ne-eqb _ _ (c .before .before .before .before .if2 .left), ne-eqb _ _ (c .before .before .before .if3 .left), lt-leb _ _ (c .before .if4 .left))
 
 pub style-standing-spec : {M : Type 1} → statement M
 style-standing-spec =

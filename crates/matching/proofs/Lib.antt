@@ -1,0 +1,6 @@
+-- Laws that several proofs cite.
+pub mod Numbers
+pub mod Below
+pub mod Ranks
+pub mod Standings
+pub mod Before
