@@ -254,3 +254,58 @@ module _ (family : Family) (request : Request) (bounds : Bounded family) where
     pub transitive : (i j k : ℕ) → i < family .count → j < family .count → k < family .count
       → standsBefore family request i j ≡ true → standsBefore family request j k ≡ true → standsBefore family request i k ≡ true
     transitive i j k hi hj hk e f = ahead→stands i k hi hk (lex-trans (stands→ahead i j hi hj e) (stands→ahead j k hj hk f))
+
+    pub weighed : (m : ℕ) → grouped (inWeight family request m) ≡ true
+    unfolding inWeight
+    weighed m = weight-grouped (request .weight) (family .face m .weight)
+
+    -- of two different faces of which one has a group, or of different percents, one stands before the other
+    pub connected : (i j : ℕ) → i < family .count → j < family .count → (i ≡ j → ⊥)
+      → (hasGroup family request i ≡ true) ⊎ ((hasGroup family request j ≡ true) ⊎ (samePercent family i j ≡ false))
+      → (standsBefore family request i j ≡ true) ⊎ (standsBefore family request j i ≡ true)
+    unfolding hasGroup
+    connected i j h k d g = width (tri (packed (inWidth family request i) 0) (packed (inWidth family request j) 0))
+      where
+        Answer : Type 0
+        Answer = (standsBefore family request i j ≡ true) ⊎ (standsBefore family request j i ≡ true)
+
+        group-of : (m n : ℕ) → m < family .count → n < family .count → grouped (inStyle family request m) ≡ true
+          → packed (inStyle family request m) (bearer family request m) ≡ packed (inStyle family request n) (bearer family request n)
+          → grouped (inStyle family request n) ≡ true
+        group-of m n hm hn e q =
+            ⊎-elim (λ (t : grouped (inStyle family request n) ≡ true). t)
+            (λ (f : grouped (inStyle family request n) ≡ false).
+              absurd
+              (omega
+              ( arith
+              , packed-below (inStyle family request m) (bearer family request m) (style-fits m hm) (bearer-fits m hm) e
+              , ungrouped (inStyle family request n) (bearer family request n) f )))
+            (truth (grouped (inStyle family request n)))
+
+        weight : packed (inWidth family request i) 0 ≡ packed (inWidth family request j) 0
+          → packed (inStyle family request i) (bearer family request i) ≡ packed (inStyle family request j) (bearer family request j)
+          → grouped (inStyle family request i) ≡ true
+          → Tri (packed (inWeight family request i) i) (packed (inWeight family request j) j) → Answer
+        weight e f a (low l) = inl (ahead→stands i j h k (by-weight e f a l))
+        weight e f a (high l) = inr (ahead→stands j i k h (by-weight (sym e) (sym f) (group-of i j h k a f) l))
+        weight e f a (same l) =
+            absurd
+            (d
+            (same-place (inWeight family request i) (inWeight family request j) i j (weight-fits i h) (weight-fits j k)
+            (omega (arith, bounds .most)) (omega (arith, bounds .most)) (weighed i) l))
+
+        style : packed (inWidth family request i) 0 ≡ packed (inWidth family request j) 0
+          → Tri (packed (inStyle family request i) (bearer family request i)) (packed (inStyle family request j) (bearer family request j)) → Answer
+        style e (low l) = inl (ahead→stands i j h k (by-style e l))
+        style e (high l) = inr (ahead→stands j i k h (by-style (sym e) l))
+        style e (same f) =
+            weight e f
+            (⊎-elim (λ (a : grouped (inStyle family request i) ≡ true). a)
+            (⊎-elim (λ (b : grouped (inStyle family request j) ≡ true). group-of j i k h b (sym f))
+            (λ (c : samePercent family i j ≡ false). absurd (clash (width-level i j h k e) c))) g)
+            (tri (packed (inWeight family request i) i) (packed (inWeight family request j) j))
+
+        width : Tri (packed (inWidth family request i) 0) (packed (inWidth family request j) 0) → Answer
+        width (low l) = inl (ahead→stands i j h k (by-width l))
+        width (high l) = inr (ahead→stands j i k h (by-width l))
+        width (same e) = style e (tri (packed (inStyle family request i) (bearer family request i)) (packed (inStyle family request j) (bearer family request j)))

@@ -4,3 +4,4 @@ pub mod Below
 pub mod Ranks
 pub mod Standings
 pub mod Before
+pub mod Choice
