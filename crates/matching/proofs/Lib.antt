@@ -5,3 +5,4 @@ pub mod Ranks
 pub mod Standings
 pub mod Before
 pub mod Choice
+pub mod Scans

@@ -1,69 +1,74 @@
+use mathlib.Core.Path.{sym, refl, _∙_}
+use native.Mathlib.Omega.{arith}
+use borrow.Author.Tests.{lt-ltb}
+use denote.Ref.{now}
+use Rattle.matching.specs.Order.{choice, familyOfLists}
+use Rattle.matching.proofs.Scans.{place-short, found-none, found-one}
 use borrow.Author.Needs.{needs}
 use Rattle.matching.proofs.matching.choose.Statement.{statement}
 use Rattle.matching.proofs.matching.choose.Tie as tie
-use Rattle.matching.proofs.matching.choose.Reads as reads
-use Rattle.matching.proofs.matching.choose.Lts as lts
-use Rattle.matching.proofs.matching.slant_at.Reads as slant-at-reads
-use Rattle.matching.proofs.matching.style_stage.Reads as style-stage-reads
-use Rattle.matching.proofs.matching.weight_stage.Reads as weight-stage-reads
-use Rattle.matching.proofs.matching.width_stage.Reads as width-stage-reads
-use Rattle.matching.proofs.rank.place_of.Reads as place-of-reads
 
--- src/matching.rt:104:9
 returns : tie.Need-returns
-returns c = let g = c .before .good in let k = c .before .fits in ?
+unfolding choice familyOfLists
+returns c = sym (rw (lt-ltb (c .before .args .count) 2 (c .if1 .taken)))
 
--- src/matching.rt:106:32
 width-stage-requires : tie.Need-width-stage-requires
 width-stage-requires c κs = search needs
 
--- src/matching.rt:106:9
 place-of-requires : tie.Need-place-of-requires
 place-of-requires c κs = search needs
 
--- src/matching.rt:107:19
 mul-percent : tie.Need-mul-percent
-mul-percent c = ?
+mul-percent c = omega (arith, c .place-of .ensures, place-short (c .before .width-stage .result))
 
--- src/matching.rt:107:19
 element-copy-out-percent : tie.Need-element-copy-out-percent
-element-copy-out-percent c = ?
+element-copy-out-percent c = omega (arith, c .place-of .ensures, place-short (c .before .width-stage .result))
 
--- src/matching.rt:108:9
 slant-at-requires : tie.Need-slant-at-requires
 slant-at-requires c κs = search needs
 
--- src/matching.rt:109:9
 style-stage-requires : tie.Need-style-stage-requires
 style-stage-requires c κs = search needs
 
--- src/matching.rt:111:9
 returns-2 : tie.Need-returns-2
-returns-2 c = ?
+returns-2 c =
+    found-none (now (c .before .before .before .before .before .before .before .args .percents)) (now (c .before .before .before .before .before .before .before .args .styles)) (now (c .before .before .before .before .before .before .before .args .weights)) (now (c .before .before .before .before .before .before .before .args .slants)) (c .before .before .before .before .before .before .before .args .count) (c .before .before .before .before .before .before .before .args .request)
+    (c .before .before .before .before .before .before .if1 .left) (c .before .before .before .before .before .before .before .pre)
+    (c .before .before .before .before .before .width-stage .ensures .1) (c .before .style-stage .ensures .1)
+    (c .before .before .before .before .before .width-stage .result) (c .before .before .before .before .before .width-stage .ensures .0)
+    (c .before .before .before .before .place-of .result) (c .before .before .before .before .place-of .ensures)
+    (c .before .before .slant-at .result) (c .before .before .slant-at .ensures)
+    (c .before .style-stage .result) (c .before .style-stage .ensures .0)
+    (c .if2 .taken)
 
--- src/matching.rt:113:9
 place-of-requires-2 : tie.Need-place-of-requires-2
 place-of-requires-2 c κs = search needs
 
--- src/matching.rt:114:17
 mul-style : tie.Need-mul-style
-mul-style c = ?
+mul-style c = omega (arith, c .place-of2 .ensures, place-short (c .before .before .style-stage .result))
 
--- src/matching.rt:114:17
 element-copy-out-style : tie.Need-element-copy-out-style
-element-copy-out-style c = ?
+element-copy-out-style c = omega (arith, c .place-of2 .ensures, place-short (c .before .before .style-stage .result))
 
--- src/matching.rt:115:20
 weight-stage-requires : tie.Need-weight-stage-requires
 weight-stage-requires c κs = search needs
 
--- src/matching.rt:115:5
 place-of-requires-3 : tie.Need-place-of-requires-3
 place-of-requires-3 c κs = search needs
 
--- src/matching.rt:99:1
 returns-3 : tie.Need-returns-3
-returns-3 c = ?
+returns-3 c =
+    c .place-of3 .ensures
+    ∙ found-one (now (c .before .before .before .before .before .before .before .before .before .before .before .args .percents)) (now (c .before .before .before .before .before .before .before .before .before .before .before .args .styles)) (now (c .before .before .before .before .before .before .before .before .before .before .before .args .weights)) (now (c .before .before .before .before .before .before .before .before .before .before .before .args .slants)) (c .before .before .before .before .before .before .before .before .before .before .before .args .count) (c .before .before .before .before .before .before .before .before .before .before .before .args .request)
+    (c .before .before .before .before .before .before .before .before .before .before .if1 .left) (c .before .before .before .before .before .before .before .before .before .before .before .pre)
+    (c .before .before .before .before .before .before .before .before .before .width-stage .ensures .1) (c .before .before .before .before .before .style-stage .ensures .1)
+    (c .before .before .before .before .before .before .before .before .before .width-stage .result) (c .before .before .before .before .before .before .before .before .before .width-stage .ensures .0)
+    (c .before .before .before .before .before .before .before .before .place-of .result) (c .before .before .before .before .before .before .before .before .place-of .ensures)
+    (c .before .before .before .before .before .before .slant-at .result) (c .before .before .before .before .before .before .slant-at .ensures)
+    (c .before .before .before .before .before .style-stage .result) (c .before .before .before .before .before .style-stage .ensures .0)
+    (c .before .weight-stage .ensures .1) (c .before .before .before .before .if2 .left)
+    (c .before .before .before .place-of2 .result) (c .before .before .before .place-of2 .ensures)
+    (c .before .weight-stage .result) (c .before .weight-stage .ensures .0)
 
 pub choose-spec : {M : Type 1} → statement M
 choose-spec =
