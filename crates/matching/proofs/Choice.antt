@@ -43,7 +43,7 @@ module _ (family : Family) (request : Request) (bounds : Bounded family) where
 
   -- `lead` is a place of least rank in width
   module _ (two : 2 ≤ family .count) (lead : ℕ) (within : lead < family .count) (leads : (j : ℕ) → j < family .count → packed (inWidth family request lead) lead ≤ packed (inWidth family request j) j) where
-    least-width : (j : ℕ) → j < family .count → packed (inWidth family request lead) 0 ≤ packed (inWidth family request j) 0
+    pub least-width : (j : ℕ) → j < family .count → packed (inWidth family request lead) 0 ≤ packed (inWidth family request j) 0
     least-width j h =
         level (inWidth family request lead) (inWidth family request j) lead j (width-fits family request bounds lead within) (width-fits family request bounds j h)
         (omega (arith, bounds .most)) (omega (arith, bounds .most)) (leads j h)

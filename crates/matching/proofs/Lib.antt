@@ -6,3 +6,4 @@ pub mod Standings
 pub mod Before
 pub mod Choice
 pub mod Scans
+pub mod Demand

@@ -1,5 +1,6 @@
 -- Section 4: the order of faces.
-use Prim.Native.Nat.{ℕ}
+use Prim.Native.Nat.{ℕ, _≤_, _<_}
+use mathlib.Core.Path.{_≡_}
 use mathlib.Core.Bool.{Bool, true, false, not, _&&_, _||_, cond}
 use mathlib.Core.List.{List}
 use lib.Dec.{leb, ltb, eqb}
@@ -210,3 +211,11 @@ module _ (family : Family) (request : Request) where
       && (not (some (λ j. samePercent family chosenWidth j && eqb (family .face j .style) (request .style)) (family .count))
       && (not (some (λ j. samePercent family chosenWidth j && onSide (request .style) (family .face j .style)) (family .count))
       && slantAt family chosenWidth)))
+
+-- Demand 3's first half, of a family of two or more faces: a chosen place is in the family and stands before every other; none is chosen, which the count stands
+-- for, exactly in the empty case.
+pub record Demand (family : Family) (request : Request) (r : ℕ) : Type 0 where
+  pub within : r ≤ family .count
+  pub stands : r < family .count → (j : ℕ) → j < family .count → (j ≡ r → ⊥) → standsBefore family request r j ≡ true
+  pub none : r ≡ family .count → emptyCase family request ≡ true
+  pub empty : emptyCase family request ≡ true → r ≡ family .count

@@ -2,7 +2,7 @@ use mathlib.Core.Path.{sym, refl, _∙_}
 use native.Mathlib.Omega.{arith}
 use borrow.Author.Tests.{lt-ltb}
 use denote.Ref.{now}
-use Rattle.matching.specs.Order.{choice, familyOfLists}
+use Rattle.matching.specs.Order.{choice, faceOfLists, familyOfLists}
 use Rattle.matching.proofs.Scans.{place-short, found-none, found-one}
 use borrow.Author.Needs.{needs}
 use Rattle.matching.proofs.matching.choose.Statement.{statement}
@@ -31,10 +31,10 @@ style-stage-requires : tie.Need-style-stage-requires
 style-stage-requires c κs = search needs
 
 returns-2 : tie.Need-returns-2
+unfolding familyOfLists faceOfLists
 returns-2 c =
-    found-none (now (c .before .before .before .before .before .before .before .args .percents)) (now (c .before .before .before .before .before .before .before .args .styles)) (now (c .before .before .before .before .before .before .before .args .weights)) (now (c .before .before .before .before .before .before .before .args .slants)) (c .before .before .before .before .before .before .before .args .count) (c .before .before .before .before .before .before .before .args .request)
-    (c .before .before .before .before .before .before .if1 .left) (c .before .before .before .before .before .before .before .pre)
-    (c .before .before .before .before .before .width-stage .ensures .1) (c .before .style-stage .ensures .1)
+    found-none (familyOfLists (now (c .before .before .before .before .before .before .before .args .percents)) (now (c .before .before .before .before .before .before .before .args .styles)) (now (c .before .before .before .before .before .before .before .args .weights)) (now (c .before .before .before .before .before .before .before .args .slants)) (c .before .before .before .before .before .before .before .args .count)) (c .before .before .before .before .before .before .before .args .request)
+    (record { most = c .before .before .before .before .before .before .before .pre; percents = c .before .before .before .before .before .width-stage .ensures .1; styles = c .before .style-stage .ensures .1 }) (c .before .before .before .before .before .before .if1 .left)
     (c .before .before .before .before .before .width-stage .result) (c .before .before .before .before .before .width-stage .ensures .0)
     (c .before .before .before .before .place-of .result) (c .before .before .before .before .place-of .ensures)
     (c .before .before .slant-at .result) (c .before .before .slant-at .ensures)
@@ -57,11 +57,11 @@ place-of-requires-3 : tie.Need-place-of-requires-3
 place-of-requires-3 c κs = search needs
 
 returns-3 : tie.Need-returns-3
+unfolding familyOfLists faceOfLists
 returns-3 c =
     c .place-of3 .ensures
-    ∙ found-one (now (c .before .before .before .before .before .before .before .before .before .before .before .args .percents)) (now (c .before .before .before .before .before .before .before .before .before .before .before .args .styles)) (now (c .before .before .before .before .before .before .before .before .before .before .before .args .weights)) (now (c .before .before .before .before .before .before .before .before .before .before .before .args .slants)) (c .before .before .before .before .before .before .before .before .before .before .before .args .count) (c .before .before .before .before .before .before .before .before .before .before .before .args .request)
-    (c .before .before .before .before .before .before .before .before .before .before .if1 .left) (c .before .before .before .before .before .before .before .before .before .before .before .pre)
-    (c .before .before .before .before .before .before .before .before .before .width-stage .ensures .1) (c .before .before .before .before .before .style-stage .ensures .1)
+    ∙ found-one (familyOfLists (now (c .before .before .before .before .before .before .before .before .before .before .before .args .percents)) (now (c .before .before .before .before .before .before .before .before .before .before .before .args .styles)) (now (c .before .before .before .before .before .before .before .before .before .before .before .args .weights)) (now (c .before .before .before .before .before .before .before .before .before .before .before .args .slants)) (c .before .before .before .before .before .before .before .before .before .before .before .args .count)) (c .before .before .before .before .before .before .before .before .before .before .before .args .request)
+    (record { most = c .before .before .before .before .before .before .before .before .before .before .before .pre; percents = c .before .before .before .before .before .before .before .before .before .width-stage .ensures .1; styles = c .before .before .before .before .before .style-stage .ensures .1 }) (c .before .before .before .before .before .before .before .before .before .before .if1 .left)
     (c .before .before .before .before .before .before .before .before .before .width-stage .result) (c .before .before .before .before .before .before .before .before .before .width-stage .ensures .0)
     (c .before .before .before .before .before .before .before .before .place-of .result) (c .before .before .before .before .before .before .before .before .place-of .ensures)
     (c .before .before .before .before .before .before .slant-at .result) (c .before .before .before .before .before .before .slant-at .ensures)
