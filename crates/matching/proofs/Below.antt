@@ -121,6 +121,11 @@ module _ (p : ℕ → Bool) where
       go (nobody q f) = q
       go (at l t f) = absurd (clash t (g (first p n) l))
 
+  pub first-is : (n k : ℕ) → k < n → p k ≡ true → ((i : ℕ) → i < k → p i ≡ false) → first p n ≡ k
+  first-is n k h e f =
+      let r = first-found n k h e in
+      elim (decLt (first p n) k) [ yes l ↦ absurd (clash (r .1) (f (first p n) l)) | no d ↦ omega (arith, r .2) ]
+
   -- where only one place has the property, it is the first
   pub first-only : (n k : ℕ) → k < n → p k ≡ true → ((i : ℕ) → i < n → p i ≡ true → i ≡ k) → first p n ≡ k
   first-only n k h e u = let r = first-found n k h e in u (first p n) (r .0) (r .1)

@@ -3,3 +3,4 @@ pub mod Rank
 pub mod Below
 pub mod Order
 pub mod Packed
+pub mod Matching

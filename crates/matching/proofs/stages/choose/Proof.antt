@@ -5,8 +5,8 @@ use denote.Ref.{now}
 use Rattle.matching.specs.Order.{choice, faceOfLists, familyOfLists}
 use Rattle.matching.proofs.Scans.{place-short, found-none, found-one}
 use borrow.Author.Needs.{needs}
-use Rattle.matching.proofs.matching.choose.Statement.{statement}
-use Rattle.matching.proofs.matching.choose.Tie as tie
+use Rattle.matching.proofs.stages.choose.Statement.{statement}
+use Rattle.matching.proofs.stages.choose.Tie as tie
 
 returns : tie.Need-returns
 unfolding choice familyOfLists

@@ -1,7 +1,7 @@
 use native.Mathlib.Omega.{arith}
 use borrow.Author.Needs.{needs}
-use Rattle.matching.proofs.matching.width_rank.Statement.{statement}
-use Rattle.matching.proofs.matching.width_rank.Tie as tie
+use Rattle.matching.proofs.stages.width_rank.Statement.{statement}
+use Rattle.matching.proofs.stages.width_rank.Tie as tie
 
 width-standing-requires : tie.Need-width-standing-requires
 width-standing-requires c κs = search needs

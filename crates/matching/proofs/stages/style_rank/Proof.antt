@@ -5,8 +5,8 @@ use mathlib.Core.Bool.{cond}
 use Rattle.matching.specs.Packed.{packed}
 
 use borrow.Author.Needs.{needs}
-use Rattle.matching.proofs.matching.style_rank.Statement.{statement}
-use Rattle.matching.proofs.matching.style_rank.Tie as tie
+use Rattle.matching.proofs.stages.style_rank.Statement.{statement}
+use Rattle.matching.proofs.stages.style_rank.Tie as tie
 
 style-standing-requires : tie.Need-style-standing-requires
 style-standing-requires c κs = search needs

@@ -14,8 +14,8 @@ use Rattle.matching.specs.declared.rank.Standing.{Standing}
 use Rattle.matching.specs.Packed.{packed, Short}
 use Rattle.matching.specs.Order.{widthStanding, styleStanding, weightStanding}
 use Rattle.matching.proofs.Below.{least-more}
-use Rattle.matching.proofs.matching.style_stage.Statement.{statement}
-use Rattle.matching.proofs.matching.style_stage.Tie as tie
+use Rattle.matching.proofs.stages.style_stage.Statement.{statement}
+use Rattle.matching.proofs.stages.style_stage.Tie as tie
 
 abbrev ranks : List ℕ → List ℕ → ℕ → Bool → Request → ℕ → ℕ
 ranks percents styles percent slant request j =

@@ -11,8 +11,8 @@ use borrow.Author.Tests.{eq-eqb, ne-eqb}
 use denote.Ref.{now}
 use Rattle.matching.specs.Below.{some}
 use Rattle.matching.proofs.Below.{join, some-at, some-more}
-use Rattle.matching.proofs.matching.slant_at.Statement.{statement}
-use Rattle.matching.proofs.matching.slant_at.Tie as tie
+use Rattle.matching.proofs.stages.slant_at.Statement.{statement}
+use Rattle.matching.proofs.stages.slant_at.Tie as tie
 
 abbrev slanted : List ℕ → List Bool → ℕ → ℕ → Bool
 slanted percents slants percent j = eqb (getD percents j 0) percent && getD slants j false

@@ -14,8 +14,8 @@ use Rattle.matching.specs.declared.rank.Standing.{Standing}
 use Rattle.matching.specs.Packed.{packed, Short}
 use Rattle.matching.specs.Order.{widthStanding, styleStanding, weightStanding}
 use Rattle.matching.proofs.Below.{least-more}
-use Rattle.matching.proofs.matching.width_stage.Statement.{statement}
-use Rattle.matching.proofs.matching.width_stage.Tie as tie
+use Rattle.matching.proofs.stages.width_stage.Statement.{statement}
+use Rattle.matching.proofs.stages.width_stage.Tie as tie
 
 abbrev ranks : List ℕ → ℕ → ℕ → ℕ
 ranks percents wanted j =

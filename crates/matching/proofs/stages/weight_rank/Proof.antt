@@ -1,8 +1,8 @@
 use native.Mathlib.Omega.{arith}
 
 use borrow.Author.Needs.{needs}
-use Rattle.matching.proofs.matching.weight_rank.Statement.{statement}
-use Rattle.matching.proofs.matching.weight_rank.Tie as tie
+use Rattle.matching.proofs.stages.weight_rank.Statement.{statement}
+use Rattle.matching.proofs.stages.weight_rank.Tie as tie
 
 weight-standing-requires : tie.Need-weight-standing-requires
 weight-standing-requires c κs = search needs
