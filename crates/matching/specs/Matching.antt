@@ -8,17 +8,21 @@ use lib.Ieee.{Float, nan}
 use lib.ListN.{getD, length, replicate}
 use Rattle.font.specs.First.{first}
 use Rattle.font.specs.Single.{single, orderKey, wholePercent}
-use Rattle.font.specs.Attributes.{attributesOf, defaultAttributes, acceptedAttributes}
+use Rattle.font.specs.Attributes.{defaultAttributes, acceptedAttributes}
 use Rattle.font.specs.Overrides.{faceRefusal}
 use Rattle.font.specs.declared.attributes.Angle.the-variants.{Unstated, Degrees}
 use Rattle.font.specs.declared.attributes.FontStyle.{FontStyle}
 use Rattle.font.specs.declared.attributes.FontStyle.the-variants.{Normal, Italic, Oblique}
+use Rattle.font.specs.declared.attributes.FontWidth.{FontWidth}
+use Rattle.font.specs.declared.attributes.FontWeight.{FontWeight}
 use Rattle.font.specs.declared.attributes.Attributes.{Attributes}
 use Rattle.font.specs.declared.font.AxisInfo.{AxisInfo}
 use Rattle.font.specs.declared.font.FontInfo.{FontInfo}
 use Rattle.matching.specs.declared.order.Request.{Request}
 use Rattle.matching.specs.Below.{some}
-use Rattle.matching.specs.Order.{Face, Family, choice}
+use Rattle.matching.specs.declared.matching.Choice.{Choice}
+use Rattle.matching.specs.declared.matching.Choice.the-variants.{Place, Nothing, Refused}
+use Rattle.matching.specs.Order.{Face, Family, standsBefore, choice, emptyCase}
 
 -- A style as one number: 0 normal, 1 italic, 2 oblique unstated, and else the order number of the stated angle, raised by 2^31.
 unfoldable pub styleNumber : FontStyle → ℕ
@@ -63,7 +67,7 @@ faceOf font =
 abbrev pub noFace : FontInfo
 noFace =
     record {
-      attributes = attributesOf nan Normal nan;
+      attributes = record { width = record { ratio = nan }; style = Normal; weight = record { value = nan } };
       axes = [];
       «axis_count» = 0;
       «charmap_index» = record { «subtable_offset» = 0; «is_symbol» = false; «is_mac_roman» = false }
@@ -75,3 +79,44 @@ blank = record { percent = 0; style = 0; weight = 0; slant = false }
 
 unfoldable pub familyOf : List FontInfo → ℕ → Family
 familyOf fonts n = record { count = n; face = λ i. cond (ltb i n) (faceOf (getD fonts i noFace)) blank }
+
+-- the request's numbers
+unfoldable pub attributesFrom : FontWidth → FontStyle → FontWeight → Attributes
+attributesFrom w s v = record { width = w; style = s; weight = v }
+
+unfoldable pub requestOf : Attributes → Bool → Request
+requestOf a on =
+    record {
+      percent = wholePercent (a .width .ratio);
+      style = styleNumber (a .style);
+      weight = orderKey (a .weight .value);
+      synthesis = on
+    }
+
+-- "Calls below the job, on a family or face by value, refuse 19 (over 64 faces or 16 axes), 24 (no such place) and 26 in that order". The numbers that 26 tests
+-- are all of the faces within the count, and all of the request.
+unfoldable pub refusedAs : List FontInfo → ℕ → ℕ → Bool
+refusedAs fonts n number = some (λ i. eqb (faceRefusal (getD fonts i noFace)) number) n
+
+unfoldable pub facesRefusal : List FontInfo → ℕ → ℕ
+facesRefusal fonts n = cond (ltb 64 n || refusedAs fonts n 19) 19 (cond (refusedAs fonts n 26) 26 0)
+
+unfoldable pub familyRefusal : List FontInfo → ℕ → Attributes → ℕ
+familyRefusal fonts n a = cond (eqb (facesRefusal fonts n) 0) (cond (acceptedAttributes a) 0 26) (facesRefusal fonts n)
+
+-- the answer of `match_font`: the chosen place, nothing, or the refusal
+unfoldable pub answered : ℕ → ℕ → Choice
+answered n r = cond (ltb r n) (Place r) Nothing
+
+unfoldable pub matchFont : List FontInfo → ℕ → Attributes → Bool → Choice
+matchFont fonts n a on =
+    cond (eqb (familyRefusal fonts n a) 0)
+    (answered n (choice (familyOf fonts n) (requestOf a on)))
+    (Refused (familyRefusal fonts n a))
+
+-- Demand 3's first half, of an answer.
+pub record Chosen (family : Family) (request : Request) (answer : Choice) : Type 0 where
+  pub stands : (p : ℕ) → answer ≡ Place p
+    → (p < family .count) × ((j : ℕ) → j < family .count → (j ≡ p → ⊥) → standsBefore family request p j ≡ true)
+  pub none : answer ≡ Nothing → emptyCase family request ≡ true
+  pub empty : emptyCase family request ≡ true → answer ≡ Nothing
