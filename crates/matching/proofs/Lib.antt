@@ -9,3 +9,4 @@ pub mod Scans
 pub mod Demand
 pub mod Fill
 pub mod Gathered
+pub mod Matched
