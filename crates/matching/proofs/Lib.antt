@@ -10,3 +10,4 @@ pub mod Demand
 pub mod Fill
 pub mod Gathered
 pub mod Matched
+pub mod Listed
