@@ -66,6 +66,11 @@ module _ (fonts : List FontInfo) (n : ℕ) where
   unfolding familyOf faceOf blank
   weights-short i l = pick (λ (f : Face). f .weight < 2 ^ 32) (ltb i n) (key-short (getD fonts i noFace .attributes .weight .value)) (omega arith)
 
+  -- faces that are not refused as too many are at most 64
+  pub faces-few : (facesRefusal fonts n ≡ 19 → ⊥) → n ≤ 64
+  unfolding facesRefusal
+  faces-few d = elim (decLt 64 n) [ yes l ↦ absurd (d (rw (lt-ltb 64 n l))) | no k ↦ omega arith ]
+
   module _ (a : Attributes) (on : Bool) where
     -- what is not refused has at most 64 faces
     pub few : familyRefusal fonts n a ≡ 0 → n ≤ 64
@@ -87,6 +92,26 @@ module _ (fonts : List FontInfo) (n : ℕ) where
     pub nothing : familyRefusal fonts n a ≡ 0 → (k : ℕ) → k ≡ choice (familyOf fonts n) (requestOf a on) → n ≤ k → Nothing ≡ matchFont fonts n a on
     unfolding answered
     nothing e k q l = sym (accepted e ∙ rw (← q, le-ltb k n l))
+
+    -- a place that is answered is in a family that is not too large
+    pub place-in : (p : ℕ) → matchFont fonts n a on ≡ Place p → (n ≤ 64) × (p < n)
+    unfolding answered
+    place-in p q = elim (ℕ-discrete (familyRefusal fonts n a) 0) [ yes e ↦ go e (truth (ltb r n)) | no d ↦ absurd (not-refused (refused d)) ]
+      where
+        r : ℕ
+        r = choice (familyOf fonts n) (requestOf a on)
+
+        not-refused : matchFont fonts n a on ≡ Refused (familyRefusal fonts n a) → ⊥
+        not-refused k = let z : _≡_ {A = ℕ} 0 1 = cc in omega arith
+
+        go : familyRefusal fonts n a ≡ 0 → (ltb r n ≡ true) ⊎ (ltb r n ≡ false) → (n ≤ 64) × (p < n)
+        go e (inl t) =
+            let same : Place r ≡ Place p = found e r refl (ltb-true r n t) ∙ q in
+            let k : r ≡ p = cc in
+            (few e, omega (arith, ltb-true r n t))
+        go e (inr f) =
+            let same : Nothing ≡ Place p = nothing e r refl (ltb-false r n f) ∙ q in
+            absurd (let z : _≡_ {A = ℕ} 0 1 = cc in omega arith)
 
     pub chosen : familyRefusal fonts n a ≡ 0 → 2 ≤ n → Chosen (familyOf fonts n) (requestOf a on) (matchFont fonts n a on)
     unfolding answered familyOf

@@ -19,10 +19,12 @@ use Rattle.font.specs.declared.attributes.Attributes.{Attributes}
 use Rattle.font.specs.declared.font.AxisInfo.{AxisInfo}
 use Rattle.font.specs.declared.font.FontInfo.{FontInfo}
 use Rattle.matching.specs.declared.order.Request.{Request}
-use Rattle.matching.specs.Below.{some}
+use Rattle.matching.specs.declared.stages.Places.{Places}
+use Rattle.matching.specs.declared.matching.Matches.{Matches}
+use Rattle.matching.specs.Below.{some, placesBelow}
 use Rattle.matching.specs.declared.matching.Choice.{Choice}
 use Rattle.matching.specs.declared.matching.Choice.the-variants.{Place, Nothing, Refused}
-use Rattle.matching.specs.Order.{Face, Family, standsBefore, choice, emptyCase}
+use Rattle.matching.specs.Order.{Face, Family, standsBefore, choice, emptyCase, laidOut}
 
 -- A style as one number: 0 normal, 1 italic, 2 oblique unstated, and else the order number of the stated angle, raised by 2^31.
 unfoldable pub styleNumber : FontStyle → ℕ
@@ -120,3 +122,20 @@ pub record Chosen (family : Family) (request : Request) (answer : Choice) : Type
     → (p < family .count) × ((j : ℕ) → j < family .count → (j ≡ p → ⊥) → standsBefore family request p j ≡ true)
   pub none : answer ≡ Nothing → emptyCase family request ≡ true
   pub empty : emptyCase family request ≡ true → answer ≡ Nothing
+
+-- "The equal list is every place whose exact ratio, style and weight equal the chosen face's, in place order; empty where none is chosen."
+unfoldable pub exactSame : List FontInfo → ℕ → ℕ → Bool
+exactSame fonts p j =
+    eqb (orderKey (getD fonts j noFace .attributes .width .ratio)) (orderKey (getD fonts p noFace .attributes .width .ratio))
+    && (eqb (styleNumber (getD fonts j noFace .attributes .style)) (styleNumber (getD fonts p noFace .attributes .style))
+    && eqb (orderKey (getD fonts j noFace .attributes .weight .value)) (orderKey (getD fonts p noFace .attributes .weight .value)))
+
+unfoldable pub equalList : List FontInfo → ℕ → Choice → Matches
+equalList fonts n (Place p) = record { refusal = 0; list = laidOut (placesBelow (exactSame fonts p) n) }
+equalList fonts n Nothing = record { refusal = 0; list = laidOut [] }
+equalList fonts n (Refused number) = record { refusal = number; list = laidOut [] }
+
+-- "A family's default is its choice for default attributes with synthesis off, or 0."
+unfoldable pub defaultPlace : List FontInfo → ℕ → ℕ
+defaultPlace fonts n =
+    cond (ltb (choice (familyOf fonts n) (requestOf defaultAttributes false)) n) (choice (familyOf fonts n) (requestOf defaultAttributes false)) 0

@@ -1,13 +1,15 @@
 // Implementation of the CSS font matching algorithm, on a family by value.
 ghost use mathlib.Core.Path.{_≡_};
-ghost use Prim.Native.Nat.{_≤_};
-ghost use Rattle.matching.specs.Order.{choice};
+ghost use Prim.Native.Nat.{_≤_, _<_};
+ghost use Rattle.matching.specs.Order.{choice, laidOut};
 ghost use mathlib.Core.Bool.{cond};
 ghost use lib.Dec.{eqb};
-ghost use Rattle.matching.specs.Matching.{styleNumber, familyOf, requestOf, attributesFrom, facesRefusal, familyRefusal, matchFont, Chosen};
+ghost use Rattle.matching.specs.Below.{placesBelow};
+ghost use Rattle.matching.specs.Matching.{styleNumber, familyOf, requestOf, attributesFrom, facesRefusal, familyRefusal, matchFont, Chosen, exactSame, equalList, defaultPlace};
 use crate::axes;
 use crate::order::Request;
 use crate::stages;
+use crate::stages::Places;
 use font::attributes::Angle;
 use font::attributes::Attributes;
 use font::attributes::FontStyle;
@@ -22,6 +24,12 @@ pub enum Choice {
     Place(usize),
     Nothing,
     Refused(u8),
+}
+
+// The equal list, with the refusal, which is 0 for none.
+pub struct Matches {
+    pub refusal: u8,
+    pub list: Places,
 }
 
 // A style as one number: 0 normal, 1 italic, 2 oblique unstated, else the order number of the angle.
@@ -135,4 +143,49 @@ pub fn match_font(fonts: [FontInfo; 64], count: usize, width: FontWidth, style: 
         return Choice::Place(place);
     }
     Choice::Nothing
+}
+
+// The places whose ratio, style and weight equal those of a face of the family.
+fn equal_list(fonts: [FontInfo; 64], count: usize, chosen: usize) -> Places
+    requires { ⌜ (count ≤ 64) × (chosen < count) ⌝ }
+    ensures { λ r. ⌜ r ≡ laidOut (placesBelow (exactSame fonts chosen) count) ⌝ }
+{
+    let mut ratios = [0u32; 64];
+    let mut styles = [0u32; 64];
+    let mut weights = [0u32; 64];
+    let mut i: usize = 0;
+    while i < count {
+        let font = fonts[i];
+        let attributes = font.attributes;
+        let style = attributes.style;
+        ratios[i] = single::order_number(attributes.width.ratio);
+        styles[i] = style_number(style);
+        weights[i] = single::order_number(attributes.weight.value);
+        i += 1;
+    }
+    stages::equal_places(&ratios, &styles, &weights, count, chosen)
+}
+
+// Every place whose exact ratio, style and weight equal the chosen face's, in place order.
+pub fn match_fonts(fonts: [FontInfo; 64], count: usize, width: FontWidth, style: FontStyle, weight: FontWeight, synthesize_style: bool) -> Matches
+    ensures { λ r. ⌜ r ≡ equalList fonts count (matchFont fonts count (attributesFrom width style weight) «synthesize_style») ⌝ }
+{
+    let best = match_font(fonts, count, width, style, weight, synthesize_style);
+    match best {
+        Choice::Place(place) => {
+            let list = equal_list(fonts, count, place);
+            Matches { refusal: 0, list }
+        }
+        Choice::Nothing => Matches { refusal: 0, list: stages::none() },
+        Choice::Refused(refusal) => Matches { refusal, list: stages::none() },
+    }
+}
+
+// The choice for default attributes with synthesis off, or 0.
+pub fn default_place(fonts: [FontInfo; 64], count: usize) -> usize
+    requires { ⌜ count ≤ 64 ⌝ }
+    ensures { λ r. ⌜ r ≡ defaultPlace fonts count ⌝ }
+{
+    let place = place_for(fonts, count, request_of(Attributes::DEFAULT, false));
+    if place < count { place } else { 0 }
 }

@@ -4,6 +4,7 @@ ghost use mathlib.Core.Bool.{cond, false, _&&_};
 ghost use Prim.Native.Nat.{_-_, _^_, _<_, _≤_};
 ghost use lib.Dec.{eqb};
 ghost use lib.ListN.{getD};
+ghost use mathlib.Core.List.{[]};
 ghost use Rattle.font.specs.First.{leastBelow};
 ghost use Rattle.matching.specs.Packed.{packed, placeOf, Short};
 ghost use Rattle.matching.specs.Below.{some, placesBelow};
@@ -139,6 +140,16 @@ fn all(a: bool, b: bool, c: bool) -> bool
 pub struct Places {
     pub places: [usize; 64],
     pub count: usize,
+}
+
+// No places.
+pub fn none() -> Places
+    ensures { λ r. ⌜ r ≡ laidOut [] ⌝ }
+{
+    Places {
+        places: [0usize; 64],
+        count: 0,
+    }
 }
 
 // The places whose ratio, style and weight equal the chosen face's.
