@@ -11,3 +11,4 @@ pub mod Fill
 pub mod Gathered
 pub mod Matched
 pub mod Listed
+pub mod Tried

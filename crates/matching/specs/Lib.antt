@@ -6,3 +6,4 @@ pub mod Packed
 pub mod Matching
 pub mod Family
 pub mod Synthesis
+pub mod Faces
