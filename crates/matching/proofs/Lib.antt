@@ -12,3 +12,4 @@ pub mod Gathered
 pub mod Matched
 pub mod Listed
 pub mod Tried
+pub mod Styles
