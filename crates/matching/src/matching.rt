@@ -125,7 +125,14 @@ pub fn family_refusal(fonts: [FontInfo; 64], count: usize, attributes: Attribute
 }
 
 // The place that stands before every other.
-pub fn match_font(fonts: [FontInfo; 64], count: usize, width: FontWidth, style: FontStyle, weight: FontWeight, synthesize_style: bool) -> Choice
+pub fn match_font(
+    fonts: [FontInfo; 64],
+    count: usize,
+    width: FontWidth,
+    style: FontStyle,
+    weight: FontWeight,
+    synthesize_style: bool,
+) -> Choice
     ensures { λ r. ⌜ r ≡ matchFont fonts count (attributesFrom width style weight) «synthesize_style» ⌝ }
     ensures demand { λ r. ⌜ (familyRefusal fonts count (attributesFrom width style weight) ≡ 0 → 2 ≤ count → Chosen (familyOf fonts count) (requestOf (attributesFrom width style weight) «synthesize_style») r) ⌝ }
 {
@@ -167,7 +174,14 @@ fn equal_list(fonts: [FontInfo; 64], count: usize, chosen: usize) -> Places
 }
 
 // Every place whose exact ratio, style and weight equal the chosen face's, in place order.
-pub fn match_fonts(fonts: [FontInfo; 64], count: usize, width: FontWidth, style: FontStyle, weight: FontWeight, synthesize_style: bool) -> Matches
+pub fn match_fonts(
+    fonts: [FontInfo; 64],
+    count: usize,
+    width: FontWidth,
+    style: FontStyle,
+    weight: FontWeight,
+    synthesize_style: bool,
+) -> Matches
     ensures { λ r. ⌜ r ≡ equalList fonts count (matchFont fonts count (attributesFrom width style weight) «synthesize_style») ⌝ }
 {
     let best = match_font(fonts, count, width, style, weight, synthesize_style);
@@ -176,8 +190,14 @@ pub fn match_fonts(fonts: [FontInfo; 64], count: usize, width: FontWidth, style:
             let list = equal_list(fonts, count, place);
             Matches { refusal: 0, list }
         }
-        Choice::Nothing => Matches { refusal: 0, list: stages::none() },
-        Choice::Refused(refusal) => Matches { refusal, list: stages::none() },
+        Choice::Nothing => Matches {
+            refusal: 0,
+            list: stages::none(),
+        },
+        Choice::Refused(refusal) => Matches {
+            refusal,
+            list: stages::none(),
+        },
     }
 }
 

@@ -5,9 +5,13 @@ use crate::rank::Standing;
 
 // Order numbers, raised by 2^31: of the angles 0, 14 and -14, and of the weights 400 and 500.
 const ZERO_ANGLE: u32 = 0x8000_0000;
+
 const FOURTEEN: u32 = 0xC160_0000;
+
 const MINUS_FOURTEEN: u32 = 0x3EA0_0000;
+
 const FOUR_HUNDRED: u32 = 0xC3C8_0000;
+
 const FIVE_HUNDRED: u32 = 0xC3FA_0000;
 
 // A request: its whole percent, its style and weight as numbers, and whether synthesis is on.

@@ -62,12 +62,12 @@ loop-less : tie.Need-loop-less Inv-loop μ-loop
 loop-less c = omega arith
 
 loop-again : tie.Need-loop-again Inv-loop μ-loop
-loop-again c =
-    ( omega arith
-    , filled-more 0 (λ j. orderKey (getD (c .before .before .before .before .before .before .before .args .t1) j noFace .attributes .width .ratio)) (c .before .before .before .before .before .before .loop .ratios) (c .before .before .before .before .before .before .loop .i) (c .before .before .order-number .result) (c .before .before .before .before .before .before .loop .inv .1) (omega arith) (c .before .before .order-number .ensures)
-    , filled-more 0 (λ j. styleNumber (getD (c .before .before .before .before .before .before .before .args .t1) j noFace .attributes .style)) (c .before .before .before .before .before .before .loop .styles) (c .before .before .before .before .before .before .loop .i) (c .before .style-number .result) (c .before .before .before .before .before .before .loop .inv .2) (omega arith) (c .before .style-number .ensures)
-    , filled-more 0 (λ j. orderKey (getD (c .before .before .before .before .before .before .before .args .t1) j noFace .attributes .weight .value)) (c .before .before .before .before .before .before .loop .weights) (c .before .before .before .before .before .before .loop .i) (c .order-number2 .result) (c .before .before .before .before .before .before .loop .inv .3) (omega arith) (c .order-number2 .ensures)
-    )
+loop-again c = (
+  omega arith,
+  filled-more 0 (λ j. orderKey (getD (c .before .before .before .before .before .before .before .args .t1) j noFace .attributes .width .ratio)) (c .before .before .before .before .before .before .loop .ratios) (c .before .before .before .before .before .before .loop .i) (c .before .before .order-number .result) (c .before .before .before .before .before .before .loop .inv .1) (omega arith) (c .before .before .order-number .ensures),
+  filled-more 0 (λ j. styleNumber (getD (c .before .before .before .before .before .before .before .args .t1) j noFace .attributes .style)) (c .before .before .before .before .before .before .loop .styles) (c .before .before .before .before .before .before .loop .i) (c .before .style-number .result) (c .before .before .before .before .before .before .loop .inv .2) (omega arith) (c .before .style-number .ensures),
+  filled-more 0 (λ j. orderKey (getD (c .before .before .before .before .before .before .before .args .t1) j noFace .attributes .weight .value)) (c .before .before .before .before .before .before .loop .weights) (c .before .before .before .before .before .before .loop .i) (c .order-number2 .result) (c .before .before .before .before .before .before .loop .inv .3) (omega arith) (c .order-number2 .ensures),
+)
 
 equal-places-requires : tie.Need-equal-places-requires Inv-loop μ-loop
 equal-places-requires c κs = omega arith
@@ -76,11 +76,11 @@ returns : tie.Need-returns Inv-loop μ-loop
 returns c =
     c .equal-places .ensures
     ∙ ap laidOut
-      (list-same (c .before .before .before .before .before .before .args .t1) (c .before .before .before .before .before .before .args .count) (c .before .before .before .before .before .loop .ratios) (c .before .before .before .before .before .loop .styles) (c .before .before .before .before .before .loop .weights)
-      (subst (Filled 0 (λ j. orderKey (getD (c .before .before .before .before .before .before .args .t1) j noFace .attributes .width .ratio)) (c .before .before .before .before .before .loop .ratios)) end (c .before .before .before .before .before .loop .inv .1))
-      (subst (Filled 0 (λ j. styleNumber (getD (c .before .before .before .before .before .before .args .t1) j noFace .attributes .style)) (c .before .before .before .before .before .loop .styles)) end (c .before .before .before .before .before .loop .inv .2))
-      (subst (Filled 0 (λ j. orderKey (getD (c .before .before .before .before .before .before .args .t1) j noFace .attributes .weight .value)) (c .before .before .before .before .before .loop .weights)) end (c .before .before .before .before .before .loop .inv .3))
-      (c .before .before .before .before .before .before .args .chosen) (c .before .before .before .before .before .before .pre .1))
+    (list-same (c .before .before .before .before .before .before .args .t1) (c .before .before .before .before .before .before .args .count) (c .before .before .before .before .before .loop .ratios) (c .before .before .before .before .before .loop .styles) (c .before .before .before .before .before .loop .weights)
+    (subst (Filled 0 (λ j. orderKey (getD (c .before .before .before .before .before .before .args .t1) j noFace .attributes .width .ratio)) (c .before .before .before .before .before .loop .ratios)) end (c .before .before .before .before .before .loop .inv .1))
+    (subst (Filled 0 (λ j. styleNumber (getD (c .before .before .before .before .before .before .args .t1) j noFace .attributes .style)) (c .before .before .before .before .before .loop .styles)) end (c .before .before .before .before .before .loop .inv .2))
+    (subst (Filled 0 (λ j. orderKey (getD (c .before .before .before .before .before .before .args .t1) j noFace .attributes .weight .value)) (c .before .before .before .before .before .loop .weights)) end (c .before .before .before .before .before .loop .inv .3))
+    (c .before .before .before .before .before .before .args .chosen) (c .before .before .before .before .before .before .pre .1))
   where
     end : c .before .before .before .before .before .loop .i ≡ c .before .before .before .before .before .before .args .count
     end = omega arith
