@@ -4,6 +4,7 @@ ghost use Prim.Native.Nat.{_≤_, _<_};
 ghost use Rattle.matching.specs.Order.{choice, laidOut};
 ghost use mathlib.Core.Bool.{cond};
 ghost use lib.Dec.{eqb};
+ghost use Rattle.font.specs.Single.{orderKey};
 ghost use Rattle.matching.specs.Below.{placesBelow};
 ghost use Rattle.matching.specs.Matching.{styleNumber, familyOf, requestOf, attributesFrom, facesRefusal, familyRefusal, matchFont, Chosen, exactSame, equalList, defaultPlace};
 use crate::axes;
@@ -152,6 +153,13 @@ pub fn match_font(
     Choice::Nothing
 }
 
+// The exact ratio as a number: not the whole percent.
+fn ratio_number(ratio: f32) -> u32
+    ensures { λ r. ⌜ r ≡ orderKey ratio ⌝ }
+{
+    single::order_number(ratio)
+}
+
 // The places whose ratio, style and weight equal those of a face of the family.
 fn equal_list(fonts: [FontInfo; 64], count: usize, chosen: usize) -> Places
     requires { ⌜ (count ≤ 64) × (chosen < count) ⌝ }
@@ -165,7 +173,7 @@ fn equal_list(fonts: [FontInfo; 64], count: usize, chosen: usize) -> Places
         let font = fonts[i];
         let attributes = font.attributes;
         let style = attributes.style;
-        ratios[i] = single::order_number(attributes.width.ratio);
+        ratios[i] = ratio_number(attributes.width.ratio);
         styles[i] = style_number(style);
         weights[i] = single::order_number(attributes.weight.value);
         i += 1;

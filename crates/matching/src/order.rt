@@ -137,18 +137,18 @@ fn left_standing(synthesis: bool, slant: bool, wanted: u32, style: u32) -> Stand
     if style < 2 {
         return other_standing(synthesis, slant, wanted, style);
     }
-    let angle = angle_of(style);
-    if angle <= wanted {
+    let lean = angle_of(style);
+    if lean <= wanted {
         if MINUS_FOURTEEN < wanted {
-            return Standing::Down(2, angle);
+            return Standing::Down(2, lean);
         }
-        return Standing::Down(1, angle);
+        return Standing::Down(1, lean);
     }
-    if angle < ZERO_ANGLE {
+    if lean < ZERO_ANGLE {
         if MINUS_FOURTEEN < wanted {
-            return Standing::Up(1, angle);
+            return Standing::Up(1, lean);
         }
-        return Standing::Up(2, angle);
+        return Standing::Up(2, lean);
     }
     other_standing(synthesis, slant, wanted, style)
 }

@@ -62,6 +62,13 @@ fn width_stage(percents: &[u32; 64], count: usize, wanted: u32) -> u64
     best
 }
 
+// Whether both hold.
+fn both(a: bool, b: bool) -> bool
+    ensures { λ r. ⌜ r ≡ (a && b) ⌝ }
+{
+    if a { b } else { false }
+}
+
 // Whether a face of the percent has a slant axis.
 fn slant_at(percents: &[u32; 64], slants: &[bool; 64], count: usize, percent: u32) -> bool
     requires { ⌜ count ≤ 64 ⌝ }
@@ -69,10 +76,8 @@ fn slant_at(percents: &[u32; 64], slants: &[bool; 64], count: usize, percent: u3
 {
     let mut i: usize = 0;
     while i < count {
-        if percents[i] == percent {
-            if slants[i] {
-                return true;
-            }
+        if both(percents[i] == percent, slants[i]) {
+            return true;
         }
         i += 1;
     }
@@ -169,18 +174,6 @@ pub fn choose(
     ))
 }
 
-// Whether all three hold.
-fn all(a: bool, b: bool, c: bool) -> bool
-    ensures { λ r. ⌜ r ≡ (a && (b && c)) ⌝ }
-{
-    if a {
-        if b {
-            return c;
-        }
-    }
-    false
-}
-
 // Places of a family, in order. Those past the count are zero.
 pub struct Places {
     pub places: [usize; 64],
@@ -215,7 +208,10 @@ pub fn equal_places(
     let mut found: usize = 0;
     let mut i: usize = 0;
     while i < count {
-        if all(ratios[i] == ratio, styles[i] == style, weights[i] == weight) {
+        if both(
+            ratios[i] == ratio,
+            both(styles[i] == style, weights[i] == weight),
+        ) {
             places[found] = i;
             found += 1;
         }
