@@ -137,3 +137,12 @@ module _ (fonts : List FontInfo) (n : ℕ) where
           none = λ q. law .none (omega (arith, ltb-false r n f, law .within));
           empty = λ q. refl;
         })
+
+-- "No face for an empty family; place 0 for one face."
+pub none-of-none : (fonts : List FontInfo) (a : Attributes) (on : Bool) → familyRefusal fonts 0 a ≡ 0 → matchFont fonts 0 a on ≡ Nothing
+unfolding answered choice familyOf
+none-of-none fonts a on e = accepted fonts 0 a on e
+
+pub first-of-one : (fonts : List FontInfo) (a : Attributes) (on : Bool) → familyRefusal fonts 1 a ≡ 0 → matchFont fonts 1 a on ≡ Place 0
+unfolding answered choice familyOf
+first-of-one fonts a on e = accepted fonts 1 a on e

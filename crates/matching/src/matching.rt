@@ -210,7 +210,7 @@ pub fn match_fonts(
 }
 
 // The choice for default attributes with synthesis off, or 0.
-pub fn default_place(fonts: [FontInfo; 64], count: usize) -> usize
+pub(crate) fn default_place(fonts: [FontInfo; 64], count: usize) -> usize
     requires { ⌜ count ≤ 64 ⌝ }
     ensures { λ r. ⌜ r ≡ defaultPlace fonts count ⌝ }
 {

@@ -140,6 +140,7 @@ fn weight_stage(
 }
 
 // The chosen place, or the count where no face is chosen. The faces are given by an array for each number.
+// Only our own crates call this and `equal_places`: a family over 64 faces is refused before.
 pub fn choose(
     percents: &[u32; 64],
     styles: &[u32; 64],
