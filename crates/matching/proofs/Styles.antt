@@ -34,7 +34,7 @@ module _ (x : Float) (single : T (fits binary32 x)) (number : finite x ≡ true)
   key-above = go (truth (ltb (toBits binary32 x) (2 ^ 31))) (ℕ-discrete (toBits binary32 x) (2 ^ 32 - 1)) (ℕ-discrete (toBits binary32 x) (2 ^ 32 - 2))
     where
       go : (ltb (toBits binary32 x) (2 ^ 31) ≡ true) ⊎ (ltb (toBits binary32 x) (2 ^ 31) ≡ false)
-        → Dec (toBits binary32 x ≡ 2 ^ 32 - 1) → Dec (toBits binary32 x ≡ 2 ^ 32 - 2) → 2 < keyOfBits (toBits binary32 x)
+          → Dec (toBits binary32 x ≡ 2 ^ 32 - 1) → Dec (toBits binary32 x ≡ 2 ^ 32 - 2) → 2 < keyOfBits (toBits binary32 x)
       go (inl t) a b = rw t (omega arith)
       go (inr f) (yes q) b = absurd (not-bits (2 ^ 32 - 1) last-pattern q)
       go (inr f) (no d) (yes q) = absurd (not-bits (2 ^ 32 - 2) one-before q)

@@ -45,5 +45,5 @@ tried =
       item10 = (refl, refl);
       item11 = (refl, refl, refl, refl);
       item12 = (nearest-1 ∙ sym whole-1, nearest-2 ∙ sym whole-2);
-      item13 = (refl, refl)
+      item13 = (refl, refl);
     }

@@ -34,7 +34,7 @@ faceWith a axes =
       attributes = a;
       axes = axes;
       «axis_count» = length axes;
-      «charmap_index» = record { «subtable_offset» = 0; «is_symbol» = false; «is_mac_roman» = false }
+      «charmap_index» = record { «subtable_offset» = 0; «is_symbol» = false; «is_mac_roman» = false };
     }
 
 -- "Normal, width 1, weight 400 unless said"
@@ -78,28 +78,28 @@ pub record FacesToTry : Type 0 where
   pub item3 : (on : Bool) → chosenOf (weighing 350 ∷ weighing 350 ∷ []) (forWeight 400) on ≡ 1
   pub item4 : (on : Bool) → chosenOf (weighing 600 ∷ weighing 600 ∷ []) (forWeight 550) on ≡ 0
   pub item5 : (on : Bool)
-    → (chosenOf (wide (fraction 3 4) ∷ wide (fraction 5 4) ∷ []) (forWidth (single 1)) on ≡ 0)
-    × (chosenOf (wide (fraction 3 4) ∷ wide (fraction 5 4) ∷ []) (forWidth (fraction 9 8)) on ≡ 1)
+      → (chosenOf (wide (fraction 3 4) ∷ wide (fraction 5 4) ∷ []) (forWidth (single 1)) on ≡ 0)
+      × (chosenOf (wide (fraction 3 4) ∷ wide (fraction 5 4) ∷ []) (forWidth (fraction 9 8)) on ≡ 1)
   pub item6 : (on : Bool)
-    → (chosenOf (styled (Oblique Unstated) ∷ styled (stated (single 14)) ∷ []) (forStyle Italic) on ≡ 0)
-    × (chosenOf (styled (Oblique Unstated) ∷ styled (stated (single 14)) ∷ []) (forStyle (stated (single 20))) on ≡ 1)
+      → (chosenOf (styled (Oblique Unstated) ∷ styled (stated (single 14)) ∷ []) (forStyle Italic) on ≡ 0)
+      × (chosenOf (styled (Oblique Unstated) ∷ styled (stated (single 14)) ∷ []) (forStyle (stated (single 20))) on ≡ 1)
   pub item7 : (on : Bool)
-    → (chosenOf (styled (stated (neg (single 10))) ∷ styled (stated (neg (single 20))) ∷ []) (forStyle (stated (neg (single 14)))) on ≡ 1)
-    × (chosenOf (styled (stated (neg (single 10))) ∷ styled (stated (neg (single 20))) ∷ []) (forStyle (stated (minusFraction 27 2))) on ≡ 0)
+      → (chosenOf (styled (stated (neg (single 10))) ∷ styled (stated (neg (single 20))) ∷ []) (forStyle (stated (neg (single 14)))) on ≡ 1)
+      × (chosenOf (styled (stated (neg (single 10))) ∷ styled (stated (neg (single 20))) ∷ []) (forStyle (stated (minusFraction 27 2))) on ≡ 0)
   -- "none" is the count, 2
   pub item8 :
-    (chosenOf (styled Normal ∷ slanting Normal ∷ []) (forStyle (stated (single 14))) true ≡ 2)
-    × (chosenOf (slanting Normal ∷ styled Normal ∷ []) (forStyle (stated (single 14))) true ≡ 2)
-    × (chosenOf (styled Normal ∷ slanting Normal ∷ []) (forStyle (stated (single 14))) false ≡ 0)
-    × (chosenOf (slanting Normal ∷ styled Normal ∷ []) (forStyle (stated (single 14))) false ≡ 0)
+      (chosenOf (styled Normal ∷ slanting Normal ∷ []) (forStyle (stated (single 14))) true ≡ 2)
+      × (chosenOf (slanting Normal ∷ styled Normal ∷ []) (forStyle (stated (single 14))) true ≡ 2)
+      × (chosenOf (styled Normal ∷ slanting Normal ∷ []) (forStyle (stated (single 14))) false ≡ 0)
+      × (chosenOf (slanting Normal ∷ styled Normal ∷ []) (forStyle (stated (single 14))) false ≡ 0)
   pub item9 : (on : Bool) → chosenOf (styled Normal ∷ styled (stated (single 0)) ∷ []) (forStyle Italic) on ≡ 0
   pub item10 : (emboldened fixed (single 400) (single 600) ≡ false) × (emboldened fixed (single 400) (single 601) ≡ true)
   pub item11 :
-    (skewOf fixed Normal (stated (fraction 9 10)) ≡ pos 0)
-    × (skewOf fixed Normal (stated (minusFraction 149 10)) ≡ negsuc 13)
-    × (skewOf fixed Normal (stated (single 200)) ≡ pos 127)
-    × (skewOf fixed Normal (stated (neg (single 200))) ≡ negsuc 127)
+      (skewOf fixed Normal (stated (fraction 9 10)) ≡ pos 0)
+      × (skewOf fixed Normal (stated (minusFraction 149 10)) ≡ negsuc 13)
+      × (skewOf fixed Normal (stated (single 200)) ≡ pos 127)
+      × (skewOf fixed Normal (stated (neg (single 200))) ≡ negsuc 127)
   pub item12 : (fixedToSingle 16777217 ≡ single 256) × (fixedToSingle 16777219 ≡ fraction 16777220 65536)
   pub item13 :
-    (chosenOf (styled (stated (single 0)) ∷ slanting (stated (single 0)) ∷ []) (forStyle (stated (single 14))) true ≡ 2)
-    × (chosenOf (slanting (stated (single 0)) ∷ styled (stated (single 0)) ∷ []) (forStyle (stated (single 14))) true ≡ 2)
+      (chosenOf (styled (stated (single 0)) ∷ slanting (stated (single 0)) ∷ []) (forStyle (stated (single 14))) true ≡ 2)
+      × (chosenOf (slanting (stated (single 0)) ∷ styled (stated (single 0)) ∷ []) (forStyle (stated (single 14))) true ≡ 2)

@@ -59,7 +59,7 @@ widthStanding w x =
     (Up 0 x)
     (cond (leb w 100) (cond (ltb x w) (Down 1 x) (Up 2 x)) (cond (ltb w x) (Up 1 x) (Down 2 x)))
 
--- The three requests below speak of a style s that is not the requested one.
+-- The three requests below speak of a style s that is not the requested one. A group of one style, and one that goes "by place", has the order number 0 throughout.
 -- "Normal: x ≥ 0 up; italic; x < 0 down."
 unfoldable pub normalStanding : ℕ → Standing
 normalStanding s = cond (eqb s 1) (Up 2 0) (cond (leb zeroAngle (angle s)) (Up 1 (angle s)) (Down 3 (angle s)))

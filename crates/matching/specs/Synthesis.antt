@@ -92,7 +92,7 @@ unvaried number bold skew =
       values = single 0 ∷ single 0 ∷ single 0 ∷ [];
       len = 0;
       embolden = bold;
-      skew = skew
+      skew = skew;
     }
 
 -- one setting more, in the next of three slots; refusal 29 is "a fourth setting"
@@ -105,7 +105,7 @@ put s tag value =
       values = set (s .values) (s .len) value;
       len = s .len + 1;
       embolden = s .embolden;
-      skew = s .skew
+      skew = s .skew;
     })
     (record { refusal = 29; tags = s .tags; values = s .values; len = s .len; embolden = s .embolden; skew = s .skew })
 
@@ -132,7 +132,7 @@ variesOf font =
       weight = hasAxis font wght;
       «weight_default» = cond (hasAxis font wght) (axisAt font (axisPlace font wght) .default) (single 0);
       slant = hasAxis font slnt;
-      italic = hasAxis font ital
+      italic = hasAxis font ital;
     }
 
 -- a call on a face by value: 19, then 26; a refused answer is empty

@@ -48,7 +48,12 @@ fn synthesis_refusal(font: FontInfo, request: Attributes) -> u8
 }
 
 // The synthesis that brings a face to the requested attributes.
-pub fn synthesis(font: FontInfo, width: FontWidth, style: FontStyle, weight: FontWeight) -> Synthesis
+pub fn synthesis(
+    font: FontInfo,
+    width: FontWidth,
+    style: FontStyle,
+    weight: FontWeight,
+) -> Synthesis
     ensures { λ r. ⌜ r ≡ synthesisOf font (attributesFrom width style weight) ⌝ }
 {
     let request = Attributes {

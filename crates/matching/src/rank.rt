@@ -11,10 +11,10 @@ pub enum Standing {
 }
 
 // The rank of what is in no group: after every other.
-pub const NOWHERE: u64 = 0xFFFF_FFFF_FFFF_FFFF;
+pub(crate) const NOWHERE: u64 = 0xFFFF_FFFF_FFFF_FFFF;
 
 // A standing and a place as one number, so that the lower number stands before.
-pub fn pack(standing: Standing, place: usize) -> u64
+pub(crate) fn pack(standing: Standing, place: usize) -> u64
     requires { ⌜ place < 64 ⌝ }
     ensures { λ r. ⌜ r ≡ packed standing place ⌝ }
 {
@@ -31,15 +31,19 @@ pub fn pack(standing: Standing, place: usize) -> u64
 }
 
 // The place that a number below NOWHERE was packed from.
-pub fn place_of(rank: u64) -> usize
+pub(crate) fn place_of(rank: u64) -> usize
     ensures { λ r. ⌜ r ≡ placeOf rank ⌝ }
 {
     let low = (rank % 64) as usize;
-    if (rank / 0x40_0000_0000) % 2 == 0 { low } else { 63 - low }
+    if (rank / 0x40_0000_0000) % 2 == 0 {
+        low
+    } else {
+        63 - low
+    }
 }
 
 // The lower of two ranks.
-pub fn lower(a: u64, b: u64) -> u64
+pub(crate) fn lower(a: u64, b: u64) -> u64
     ensures { λ r. ⌜ r ≡ min a b ⌝ }
 {
     if a < b { a } else { b }

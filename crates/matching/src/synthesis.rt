@@ -60,7 +60,11 @@ fn weight_setting(varies: Varies, wanted: f32) -> Setting
 fn emboldens(varies: Varies, own: f32, wanted: f32) -> bool
     ensures { λ r. ⌜ r ≡ emboldened varies own wanted ⌝ }
 {
-    if varies.weight { false } else { own + 200.0 < wanted }
+    if varies.weight {
+        false
+    } else {
+        own + 200.0 < wanted
+    }
 }
 
 // The degrees of an oblique: 14 where unstated.
@@ -101,7 +105,11 @@ fn italic_skew(varies: Varies) -> i8
 fn leans_right(varies: Varies, degrees: f32) -> bool
     ensures { λ r. ⌜ r ≡ leansRight varies degrees ⌝ }
 {
-    if varies.italic { ZERO_ANGLE < single::order_number(degrees) } else { false }
+    if varies.italic {
+        ZERO_ANGLE < single::order_number(degrees)
+    } else {
+        false
+    }
 }
 
 fn oblique_setting(varies: Varies, degrees: f32) -> Setting

@@ -54,9 +54,9 @@ unfolding axisPlace axisAt
 returns-2 c =
     c .before .before .before .axis-count .ensures
     ∙ sym
-      (first-none (λ j. eqb (axisAt (c .before .before .before .before .args .font) j .tag) (c .before .before .before .before .args .tag))
-      (axisCount (c .before .before .before .before .args .font))
-      (λ j h. c .before .loop .inv .1 j (omega (arith, c .before .before .before .axis-count .ensures))))
+    (first-none (λ j. eqb (axisAt (c .before .before .before .before .args .font) j .tag) (c .before .before .before .before .args .tag))
+    (axisCount (c .before .before .before .before .args .font))
+    (λ j h. c .before .loop .inv .1 j (omega (arith, c .before .before .before .axis-count .ensures))))
 
 pub axis-place-spec : {M : Type 1} → statement M
 axis-place-spec =

@@ -56,9 +56,9 @@ returns c = λ k. record { width = c .before .before .has-axis .ensures k; weigh
     value =
         ⊎-elim
         (λ w.
-          w .2
-          ∙ ap (λ (i : ℕ). axisAt (c .before .before .before .before .before .before .args .font) i .default) (c .before .before .before .before .before .axis-place .ensures)
-          ∙ where-true (hasAxis (c .before .before .before .before .before .before .args .font) wght) _ (single 0) (sym has ∙ w .0 .taken))
+        w .2
+        ∙ ap (λ (i : ℕ). axisAt (c .before .before .before .before .before .before .args .font) i .default) (c .before .before .before .before .before .axis-place .ensures)
+        ∙ where-true (hasAxis (c .before .before .before .before .before .before .args .font) wght) _ (single 0) (sym has ∙ w .0 .taken))
         (λ w. w .1 ∙ sym single-0 ∙ where-false (hasAxis (c .before .before .before .before .before .before .args .font) wght) (axisAt (c .before .before .before .before .before .before .args .font) (axisPlace (c .before .before .before .before .before .before .args .font) wght) .default) (single 0) (sym has ∙ w .0 .left))
         (c .before .before .before .if1 .came)
 

@@ -38,20 +38,20 @@ unfolding synthesized
 returns c =
     c .added3 .ensures
     ∙ (λ k.
-        added
-        ((c .before .before .added2 .ensures
-        ∙ (λ l.
-            added
-            ((c .before .before .before .before .added .ensures
-            ∙ (λ m.
-                added
-                ((c .before .before .before .before .before .before .unvaried .ensures
-                ∙ (λ n.
-                    unvaried 0 (c .before .before .before .before .before .before .before .before .emboldens .ensures n)
-                    ((toZ-ofZ w8 (c .before .before .before .before .before .before .before .skew-of .result) (record { sfits = c .before .before .before .before .before .before .before .skew-of .ok }) ∙ c .before .before .before .before .before .before .before .skew-of .ensures) n))) m)
-                (c .before .before .before .before .before .width-setting .ensures m))) l)
-            (c .before .before .before .weight-setting .ensures l))) k)
-        (c .before .style-setting .ensures k))
+    added
+    ((c .before .before .added2 .ensures
+    ∙ (λ l.
+    added
+    ((c .before .before .before .before .added .ensures
+    ∙ (λ m.
+    added
+    ((c .before .before .before .before .before .before .unvaried .ensures
+    ∙ (λ n.
+    unvaried 0 (c .before .before .before .before .before .before .before .before .emboldens .ensures n)
+    ((toZ-ofZ w8 (c .before .before .before .before .before .before .before .skew-of .result) (record { sfits = c .before .before .before .before .before .before .before .skew-of .ok }) ∙ c .before .before .before .before .before .before .before .skew-of .ensures) n))) m)
+    (c .before .before .before .before .before .width-setting .ensures m))) l)
+    (c .before .before .before .weight-setting .ensures l))) k)
+    (c .before .style-setting .ensures k))
 
 pub synthesize-spec : {M : Type 1} → statement M
 synthesize-spec =
