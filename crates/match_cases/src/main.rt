@@ -158,11 +158,20 @@ fn bits_of(x: f32) -> u32 {
     f32::to_bits(x)
 }
 
+fn print_refused(refusal: u8) {
+    io::write_all(STDOUT_FILENO, b"refused");
+    print_number(b' ', refusal as usize);
+}
+
 fn print_choice(choice: Choice) {
-    if let Choice::Place(place) = choice {
-        io::print_decimal(STDOUT_FILENO, place as u64);
-    } else {
-        io::write_all(STDOUT_FILENO, b"-");
+    match choice {
+        Choice::Place(place) => {
+            io::print_decimal(STDOUT_FILENO, place as u64);
+        }
+        Choice::Nothing => {
+            io::write_all(STDOUT_FILENO, b"-");
+        }
+        Choice::Refused(refusal) => print_refused(refusal),
     }
 }
 
@@ -235,46 +244,62 @@ fn print_synthesis(synthesis: Synthesis) {
     print_settings(tags, values, synthesis.len);
 }
 
-fn print_refused(refusal: u8) {
-    io::write_all(STDOUT_FILENO, b"refused");
-    print_number(b' ', refusal as usize);
+fn print_line(choice: Choice, list: Places, default: usize, synthesis: Synthesis) {
+    let places = list.places;
+    print_choice(choice);
+    print_places(places, list.count);
+    print_number(b' ', default);
+    print_synthesis(synthesis);
 }
 
-// The place of the face that is shown.
+// Answers.
+
+// The place of the chosen face, or of the default face where none is chosen.
 fn shown_place(choice: Choice, default: usize) -> usize {
     if let Choice::Place(place) = choice { place } else { default }
 }
 
-// What follows the equal list.
-fn print_shown(family: FamilyInfo, choice: Choice, request: Attributes) {
-    let place = shown_place(choice, family.default_font);
-    let fetched = family.match_font(place);
+// The synthesis of that face.
+fn shown_synthesis(family: FamilyInfo, choice: Choice, request: Attributes) -> Synthesis {
+    let fetched = family.match_font(shown_place(choice, family.default_font));
+    if fetched.refusal != 0 {
+        return Synthesis::unvaried(fetched.refusal, false, 0);
+    }
     let font = fetched.font;
     let width = request.width;
     let style = request.style;
     let weight = request.weight;
-    print_number(b' ', family.default_font);
-    print_synthesis(face::synthesis(font, width, style, weight));
+    face::synthesis(font, width, style, weight)
+}
+
+// The first of three refusals that is one.
+fn first_refusal(a: u8, b: u8, c: u8) -> u8 {
+    if a != 0 {
+        return a;
+    }
+    if b != 0 {
+        return b;
+    }
+    c
 }
 
 // The line of a case, without its end.
-fn print_answers(fonts: [FontInfo; 64], count: usize, request: Attributes, synthesis: bool) {
+fn print_answers(fonts: [FontInfo; 64], count: usize, request: Attributes, synthesize_style: bool) {
     let width = request.width;
     let style = request.style;
     let weight = request.weight;
-    let matches = matching::matching::match_fonts(fonts, count, width, style, weight, synthesis);
-    if matches.refusal != 0 {
-        print_refused(matches.refusal);
-        return;
-    }
-    let choice = matching::matching::match_font(fonts, count, width, style, weight, synthesis);
-    print_choice(choice);
-    let list = matches.list;
-    let places = list.places;
-    print_places(places, list.count);
+    let choice = matching::matching::match_font(fonts, count, width, style, weight, synthesize_style);
+    let matches = matching::matching::match_fonts(fonts, count, width, style, weight, synthesize_style);
     let made = FamilyInfo::new(fonts, count);
     let family = made.family;
-    print_shown(family, choice, request);
+    let synthesis = shown_synthesis(family, choice, request);
+    let refusal = first_refusal(matches.refusal, made.refusal, synthesis.refusal);
+    if refusal == 0 {
+        let list = matches.list;
+        print_line(choice, list, family.default_font, synthesis);
+    } else {
+        print_refused(refusal);
+    }
 }
 
 // The line of the case that the bytes start with. Answers how many bytes the case takes.
