@@ -256,7 +256,11 @@ fn print_line(choice: Choice, list: Places, default: usize, synthesis: Synthesis
 
 // The place of the chosen face, or of the default face where none is chosen.
 fn shown_place(choice: Choice, default: usize) -> usize {
-    if let Choice::Place(place) = choice { place } else { default }
+    if let Choice::Place(place) = choice {
+        place
+    } else {
+        default
+    }
 }
 
 // The synthesis of that face.
@@ -288,8 +292,22 @@ fn print_answers(fonts: [FontInfo; 64], count: usize, request: Attributes, synth
     let width = request.width;
     let style = request.style;
     let weight = request.weight;
-    let choice = matching::matching::match_font(fonts, count, width, style, weight, synthesize_style);
-    let matches = matching::matching::match_fonts(fonts, count, width, style, weight, synthesize_style);
+    let choice = matching::matching::match_font(
+        fonts,
+        count,
+        width,
+        style,
+        weight,
+        synthesize_style,
+    );
+    let matches = matching::matching::match_fonts(
+        fonts,
+        count,
+        width,
+        style,
+        weight,
+        synthesize_style,
+    );
     let made = FamilyInfo::new(fonts, count);
     let family = made.family;
     let synthesis = shown_synthesis(family, choice, request);
