@@ -1,3 +1,4 @@
+-- The invariant: the three arrays hold the numbers of the faces passed, and zeros after them.
 use Prim.Native.Nat.{ℕ, _-_, _≤_}
 use mathlib.Core.Path.{_≡_, _∙_, ap, subst}
 use mathlib.Core.List.{List}

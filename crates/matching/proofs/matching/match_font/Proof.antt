@@ -1,3 +1,4 @@
+-- Each answer is the definition's, and so has what demand 3 says: `chosen` of proofs/Matched.antt.
 use mathlib.Core.Path.{_≡_, sym, _∙_, ap, subst}
 use borrow.Author.Tests.{lt-ltb, le-ltb}
 use Rattle.matching.specs.declared.matching.Choice.{Choice}

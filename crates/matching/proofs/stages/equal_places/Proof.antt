@@ -1,3 +1,4 @@
+-- The invariant: the array holds the equal places passed, in order, and zeros after them.
 use Prim.Native.Nat.{ℕ, _-_, _≤_}
 use mathlib.Core.Path.{_≡_, refl, sym, _∙_, ap}
 use mathlib.Core.Logic.{⊎-elim}

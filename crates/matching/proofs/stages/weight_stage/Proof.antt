@@ -1,3 +1,4 @@
+-- The invariant: `best` is the least rank of the places passed, and their weights are of 32 bits. The turn is the law of the scans, `least-more`.
 use Prim.Native.Nat.{ℕ, _-_, _^_, _≤_}
 use mathlib.Core.Path.{_≡_, refl, sym, _∙_, ap}
 use mathlib.Core.Bool.{Bool, true, false, cond, _&&_}
