@@ -1,5 +1,5 @@
 -- What the three scans find is the choice: `found-none` and `found-one` of proofs/Scans.antt.
-use mathlib.Core.Path.{sym, refl, _∙_}
+use mathlib.Core.Path.{sym, _∙_}
 use native.Mathlib.Omega.{arith}
 use borrow.Author.Tests.{lt-ltb}
 use denote.Ref.{now}
