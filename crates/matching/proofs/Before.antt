@@ -1,22 +1,21 @@
 -- Laws of section 4's relation "stands before", for a family of at most 64 faces whose numbers are of 32 bits, as every family by value is:
 -- no face stands before itself, no two stand before each other, it is transitive, and of two different faces one stands before the other
 -- unless they have one percent and neither has a group.
-use Prim.Native.Nat.{ℕ, _+_, _^_, _≤_, _<_}
+use Prim.Native.Nat.{ℕ, _^_, _≤_, _<_}
 use mathlib.Core.Path.{_≡_, refl, sym, _∙_, ap}
-use mathlib.Core.Bool.{Bool, true, false, not, _&&_, _||_, cond}
+use mathlib.Core.Bool.{Bool, true, false, not, _&&_, _||_}
 use mathlib.Core.Logic.{_⊎_, inl, inr, ⊎-elim}
 use native.Mathlib.Omega.{arith}
-use native.Mathlib.Decide.{ℕ-discrete}
-use lib.Dec.{ltb, leb, eqb}
-use borrow.Author.Tests.{lt-ltb, le-ltb, eq-eqb, ne-eqb, eqb-true, eqb-false}
+use lib.Dec.{ltb, eqb}
+use borrow.Author.Tests.{lt-ltb, le-ltb, eq-eqb, eqb-true}
 use Rattle.font.specs.First.{first}
 use Rattle.matching.specs.declared.order.Request.{Request}
 use Rattle.matching.specs.declared.rank.Standing.{Standing}
 use Rattle.matching.specs.declared.rank.Standing.the-variants.{Up, Down, Nowhere}
-use Rattle.matching.specs.Rank.{before, grouped}
+use Rattle.matching.specs.Rank.{grouped}
 use Rattle.matching.specs.Packed.{packed}
-use Rattle.matching.specs.Below.{some, every, last}
-use Rattle.matching.specs.Order.{Family, Face, widthStanding, styleStanding, weightStanding, samePercent, bears, slantAt, inWidth, inStyle, inWeight, bearerOf, bearer, hasGroup, widthBefore, styleBefore, weightBefore, standsBefore}
+use Rattle.matching.specs.Below.{some, last}
+use Rattle.matching.specs.Order.{Family, widthStanding, styleStanding, samePercent, bears, slantAt, inWidth, inStyle, inWeight, bearerOf, bearer, hasGroup, widthBefore, styleBefore, weightBefore, standsBefore}
 use Rattle.matching.proofs.Below.{truth, clash, both, join, first-found, last-found}
 use Rattle.matching.proofs.Ranks.{Tri, low, same, high, tri, Sized, ranks, packed-below, ungrouped, same-place, same-order}
 use Rattle.matching.proofs.Standings.{width-sized, width-order, weight-sized, weight-grouped, style-sized}

@@ -1,22 +1,21 @@
 -- What three scans for the least rank find is the choice of section 4.
-use Prim.Native.Nat.{ℕ, _+_, _^_, _≤_, _<_}
-use mathlib.Core.Path.{_≡_, refl, sym, _∙_, ap, subst}
-use mathlib.Core.Bool.{Bool, true, false, not, _&&_, _||_, cond}
+use Prim.Native.Nat.{ℕ, _^_, _≤_, _<_}
+use mathlib.Core.Path.{_≡_, sym, _∙_, ap}
+use mathlib.Core.Bool.{Bool, true, false, not, _&&_, _||_}
 use mathlib.Core.Logic.{_⊎_, inl, inr, ⊎-elim}
 use native.Mathlib.Omega.{arith}
 use native.Mathlib.Decide.{ℕ-discrete}
-use lib.Dec.{ltb, leb, eqb}
-use borrow.Author.Tests.{lt-ltb, le-ltb, eq-eqb, ne-eqb, eqb-true, eqb-false, ltb-true, ltb-false, not-true}
-use Rattle.font.specs.First.{first}
+use lib.Dec.{eqb}
+use borrow.Author.Tests.{le-ltb, eq-eqb, eqb-true, ltb-true, ltb-false, not-true}
 use Rattle.matching.specs.declared.order.Request.{Request}
 use Rattle.matching.specs.declared.rank.Standing.{Standing}
 use Rattle.matching.specs.declared.rank.Standing.the-variants.{Up, Down, Nowhere}
-use Rattle.matching.specs.Rank.{before, grouped}
+use Rattle.matching.specs.Rank.{grouped}
 use Rattle.matching.specs.Packed.{packed}
-use Rattle.matching.specs.Below.{some, every, last}
-use Rattle.matching.specs.Order.{Family, Face, samePercent, bears, inWidth, inStyle, inWeight, bearerOf, bearer, hasGroup, widthBefore, styleBefore, weightBefore, standsBefore, standsFirst, choice}
+use Rattle.matching.specs.Below.{every}
+use Rattle.matching.specs.Order.{Family, samePercent, bears, inWidth, inStyle, inWeight, bearerOf, bearer, hasGroup, widthBefore, styleBefore, weightBefore, standsBefore, standsFirst, choice}
 use Rattle.matching.proofs.Below.{truth, clash, both, either, join, or-right, every-at, every-all, first-found, first-none, first-only, last-found}
-use Rattle.matching.proofs.Ranks.{Tri, low, same, high, tri, Sized, packed-below, ungrouped, same-place, level}
+use Rattle.matching.proofs.Ranks.{Tri, low, same, high, tri, packed-below, ungrouped, same-place, level}
 use Rattle.matching.proofs.Before.{Bounded, by-width, by-style, by-weight, percent-same, same-percent, bears-parts, bears-from, style-same, bearer-same, bearer-bears, bears-self, width-fits, style-fits, bearer-fits, weight-fits, width-is, width-level, level-width, Ahead, ahead→stands, asymmetric, weighed}
 
 module _ (family : Family) (request : Request) (bounds : Bounded family) where

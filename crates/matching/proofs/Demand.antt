@@ -1,24 +1,22 @@
 -- Demand 3's first half: the choice of a family of two or more faces is in it and stands before every other, and is none exactly in the empty case.
-use Prim.Native.Nat.{ℕ, _+_, _-_, _^_, _≤_, _<_}
+use Prim.Native.Nat.{ℕ, _-_, _^_, _≤_, _<_}
 use mathlib.Core.Path.{_≡_, refl, sym, _∙_, ap}
-use mathlib.Core.Bool.{Bool, true, false, not, _&&_, _||_, cond}
+use mathlib.Core.Bool.{Bool, true, false, not, _&&_, cond}
 use mathlib.Core.Logic.{_⊎_, inl, inr, ⊎-elim}
 use native.Mathlib.Omega.{arith}
 use native.Mathlib.Decide.{ℕ-discrete}
 use lib.Dec.{ltb, leb, eqb}
-use borrow.Author.Tests.{lt-ltb, le-ltb, le-leb, lt-leb, eq-eqb, ne-eqb, eqb-true, eqb-false, leb-true, leb-false, ltb-true, ltb-false, not-true, not-false}
+use borrow.Author.Tests.{lt-ltb, le-ltb, le-leb, lt-leb, eq-eqb, ne-eqb, eqb-false, leb-true, leb-false, ltb-false, not-true, not-false}
 use Rattle.font.specs.First.{first, leastBelow}
 use Rattle.matching.specs.declared.order.Request.{Request}
-use Rattle.matching.specs.declared.rank.Standing.{Standing}
-use Rattle.matching.specs.declared.rank.Standing.the-variants.{Up, Down, Nowhere}
 use Rattle.matching.specs.Rank.{grouped}
 use Rattle.matching.specs.Packed.{packed, placeOf}
 use Rattle.matching.specs.Below.{some, every}
-use Rattle.matching.specs.Order.{Family, angle, oblique, zeroAngle, fourteen, minusFourteen, normalStanding, italicStanding, otherStanding, rightStanding, leftStanding, widthStanding, styleStanding, weightStanding, onSide, samePercent, slantAt, inWidth, inStyle, hasGroup, widthBefore, standsBefore, standsFirst, choice, chosenWidth, emptyCase, Demand}
-use Rattle.matching.proofs.Below.{truth, clash, both, join, some-at, some-less, some-none, every-at, every-all, first-found, Sought, sought, nobody, at}
+use Rattle.matching.specs.Order.{Family, angle, oblique, zeroAngle, fourteen, normalStanding, italicStanding, otherStanding, rightStanding, leftStanding, widthStanding, styleStanding, weightStanding, onSide, samePercent, slantAt, inWidth, inStyle, hasGroup, widthBefore, standsFirst, choice, chosenWidth, emptyCase, Demand}
+use Rattle.matching.proofs.Below.{truth, clash, both, join, some-less, some-none, every-at, every-all, first-found, Sought, sought, nobody, at}
 use Rattle.matching.proofs.Numbers.{zero-angle, fourteen-is}
 use Rattle.matching.proofs.Standings.{pick}
-use Rattle.matching.proofs.Before.{Bounded, percent-same, same-percent, slant-same, width-is, width-level, level-width}
+use Rattle.matching.proofs.Before.{Bounded, percent-same, same-percent, slant-same, width-is, width-level}
 use Rattle.matching.proofs.Choice.{least-width, first-before, none-chosen}
 use Rattle.matching.proofs.Scans.{lead-found, leads, none-grouped, r-found, found-one}
 

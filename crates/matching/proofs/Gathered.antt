@@ -10,7 +10,7 @@ use Rattle.font.specs.Single.{orderKey}
 use Rattle.matching.specs.Below.{placesBelow}
 use lib.ListN.{getD}
 use Rattle.font.specs.declared.font.FontInfo.{FontInfo}
-use Rattle.matching.specs.Order.{Face, Family, faceOfLists, familyOfLists, equalTo}
+use Rattle.matching.specs.Order.{Face, faceOfLists, familyOfLists, equalTo}
 use Rattle.matching.specs.Matching.{faceOf, noFace, blank, familyOf, styleNumber, exactSame, axisCount}
 use Rattle.matching.proofs.Fill.{Filled}
 

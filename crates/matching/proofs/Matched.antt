@@ -1,13 +1,13 @@
 -- Demand 3's first half of `match_font`: its answer for a family of two or more faces that is not refused.
-use Prim.Native.Nat.{ℕ, _+_, _-_, _*_, _/_, _^_, _≤_, _<_, min}
-use mathlib.Core.Path.{_≡_, refl, sym, _∙_, ap, subst}
-use mathlib.Core.Bool.{Bool, true, false, not, _&&_, _||_, cond}
+use Prim.Native.Nat.{ℕ, _^_, _≤_, _<_}
+use mathlib.Core.Path.{_≡_, refl, sym, _∙_, subst}
+use mathlib.Core.Bool.{Bool, true, false, cond}
 use mathlib.Core.List.{List}
-use mathlib.Core.Logic.{_⊎_, inl, inr, ⊎-elim}
+use mathlib.Core.Logic.{_⊎_, inl, inr}
 use native.Mathlib.Omega.{arith}
 use native.Mathlib.Decide.{decLt, ℕ-discrete}
-use lib.Dec.{ltb, leb, eqb}
-use lib.Ieee.{Float, nan, inf, fin, binary32, toBits, isNan, mul, toUnsigned, up, down}
+use lib.Dec.{ltb}
+use lib.Ieee.{Float, nan, inf, fin, binary32, toBits, isNan, mul, toUnsigned}
 use lib.ListN.{getD}
 use borrow.Author.Tests.{lt-ltb, le-ltb, eq-eqb, ne-eqb, ltb-true, ltb-false}
 use Rattle.font.specs.Single.{single, keyOfBits, orderKey, wholePercent}
@@ -16,12 +16,10 @@ use Rattle.font.specs.declared.attributes.FontStyle.{FontStyle}
 use Rattle.font.specs.declared.attributes.FontStyle.the-variants.{Normal, Italic, Oblique}
 use Rattle.font.specs.declared.attributes.Attributes.{Attributes}
 use Rattle.font.specs.declared.font.FontInfo.{FontInfo}
-use Rattle.matching.specs.declared.order.Request.{Request}
-use Rattle.matching.specs.declared.matching.Choice.{Choice}
 use Rattle.matching.specs.declared.matching.Choice.the-variants.{Place, Nothing, Refused}
-use Rattle.matching.specs.Order.{Face, Family, standsBefore, choice, emptyCase, Demand}
+use Rattle.matching.specs.Order.{Face, standsBefore, choice, Demand}
 use Rattle.matching.specs.Matching.{styleNumber, faceOf, noFace, blank, familyOf, requestOf, facesRefusal, familyRefusal, answered, matchFont, Chosen}
-use Rattle.matching.proofs.Below.{truth, clash}
+use Rattle.matching.proofs.Below.{truth}
 use Rattle.matching.proofs.Standings.{pick}
 use Rattle.matching.proofs.Before.{Bounded}
 use Rattle.matching.proofs.Demand.{demand}

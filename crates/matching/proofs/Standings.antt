@@ -4,8 +4,6 @@ use mathlib.Core.Path.{_≡_, refl}
 use mathlib.Core.Bool.{Bool, true, false, _&&_, cond}
 use native.Mathlib.Omega.{arith}
 use lib.Dec.{ltb, leb, eqb}
-use Rattle.matching.specs.declared.rank.Standing.{Standing}
-use Rattle.matching.specs.declared.rank.Standing.the-variants.{Up, Down, Nowhere}
 use Rattle.matching.specs.Rank.{grouped}
 use Rattle.matching.specs.Order.{angle, oblique, fourteen, zeroAngle, minusFourteen, fourHundred, fiveHundred, widthStanding, normalStanding, italicStanding, otherStanding, rightStanding, leftStanding, styleStanding, weightStanding}
 use Rattle.matching.proofs.Ranks.{Sized, orderIn}

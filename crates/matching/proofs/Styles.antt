@@ -1,15 +1,15 @@
 -- A style is told from every other by its number: no finite angle has the number of normal, italic or unstated.
-use Prim.Native.Nat.{ℕ, _+_, _-_, _*_, _^_, _≤_, _<_}
-use mathlib.Core.Path.{_≡_, refl, sym, _∙_, ap, subst}
-use mathlib.Core.Bool.{Bool, true, false, cond}
+use Prim.Native.Nat.{ℕ, _-_, _^_, _<_}
+use mathlib.Core.Path.{_≡_, refl, sym, _∙_, ap}
+use mathlib.Core.Bool.{true, false}
 use mathlib.Core.Logic.{_⊎_, inl, inr}
 use native.Mathlib.Omega.{arith}
-use native.Mathlib.Decide.{decLt, ℕ-discrete}
+use native.Mathlib.Decide.{ℕ-discrete}
 use lib.Dec.{T, ltb}
-use lib.Ieee.{Float, nan, inf, fin, binary32, fits, isNan, toBits, ofBits, top}
+use lib.Ieee.{Float, nan, inf, fin, binary32, fits, isNan, toBits, ofBits}
 use lib.Ieee.Bits.{ofBits-toBits, toBits-lt}
 use lib.Ieee.Scale.{finite}
-use borrow.Author.Tests.{ltb-true, ltb-false}
+use borrow.Author.Tests.{ltb-false}
 use Rattle.font.specs.Single.{keyOfBits, orderKey}
 use Rattle.matching.proofs.Below.{truth, clash}
 

@@ -1,8 +1,8 @@
 -- Section 4 and the scope's first section: a family by value with its default, and the fetch of a face by place.
 use Prim.Native.Nat.{ℕ}
-use mathlib.Core.Bool.{Bool, true, false, cond}
+use mathlib.Core.Bool.{cond}
 use mathlib.Core.List.{List}
-use lib.Dec.{leb, ltb, eqb}
+use lib.Dec.{ltb, eqb}
 use lib.ListN.{getD}
 use Rattle.font.specs.declared.font.FontInfo.{FontInfo}
 use Rattle.matching.specs.declared.family.FamilyInfo.{FamilyInfo}

@@ -1,13 +1,13 @@
 -- Section 4 for faces by value: the numbers that the order looks at, the choice, the equal list, the default, and the refusals of calls on a family by value.
-use Prim.Native.Nat.{ℕ, zero, suc, _-_, _<_, _≤_, min}
+use Prim.Native.Nat.{ℕ, _<_, min}
 use mathlib.Core.Path.{_≡_}
-use mathlib.Core.Bool.{Bool, true, false, not, _&&_, _||_, cond}
-use mathlib.Core.List.{List, [], _∷_, _++_}
-use lib.Dec.{leb, ltb, eqb}
-use lib.Ieee.{Float, nan}
-use lib.ListN.{getD, length, replicate}
+use mathlib.Core.Bool.{Bool, true, false, _&&_, _||_, cond}
+use mathlib.Core.List.{List, []}
+use lib.Dec.{ltb, eqb}
+use lib.Ieee.{nan}
+use lib.ListN.{getD}
 use Rattle.font.specs.First.{first}
-use Rattle.font.specs.Single.{single, orderKey, wholePercent}
+use Rattle.font.specs.Single.{orderKey, wholePercent}
 use Rattle.font.specs.Attributes.{defaultAttributes, acceptedAttributes}
 use Rattle.font.specs.Overrides.{faceRefusal}
 use Rattle.font.specs.declared.attributes.Angle.the-variants.{Unstated, Degrees}
@@ -19,7 +19,6 @@ use Rattle.font.specs.declared.attributes.Attributes.{Attributes}
 use Rattle.font.specs.declared.font.AxisInfo.{AxisInfo}
 use Rattle.font.specs.declared.font.FontInfo.{FontInfo}
 use Rattle.matching.specs.declared.order.Request.{Request}
-use Rattle.matching.specs.declared.stages.Places.{Places}
 use Rattle.matching.specs.declared.matching.Matches.{Matches}
 use Rattle.matching.specs.Below.{some, placesBelow}
 use Rattle.matching.specs.declared.matching.Choice.{Choice}

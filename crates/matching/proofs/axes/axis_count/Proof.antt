@@ -1,4 +1,3 @@
-use mathlib.Core.Path.{sym}
 use native.Mathlib.Omega.{arith}
 use Rattle.matching.specs.Matching.{axisCount}
 use Rattle.matching.proofs.axes.axis_count.Statement.{statement}

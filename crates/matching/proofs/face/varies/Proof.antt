@@ -6,12 +6,11 @@ use lib.Dec.{ltb}
 use lib.Ieee.{Float}
 use borrow.Author.Tests.{ltb-true}
 use Rattle.font.specs.Single.{single}
-use Rattle.matching.specs.Matching.{axisAt, axisPlace, axisCount, hasAxis, slnt}
+use Rattle.matching.specs.Matching.{axisAt, axisPlace, hasAxis, slnt}
 use Rattle.matching.specs.Synthesis.{wdth, wght, ital, variesOf}
 use Rattle.matching.proofs.Numbers.{single-0}
 use Rattle.matching.proofs.Gathered.{axes-few}
-use mathlib.Core.Path.{_≡_, refl, sym, _∙_, ap}
-use borrow.Author.Tests.{lt-ltb, le-ltb, le-leb, lt-leb, eq-eqb, ne-eqb}
+use mathlib.Core.Path.{_≡_, sym, _∙_, ap}
 use native.Mathlib.Omega.{arith}
 use Rattle.matching.specs.Synthesis.{variesOf}
 use borrow.Author.Needs.{needs}

@@ -2,9 +2,8 @@ use native.Mathlib.Omega.{arith}
 use Rattle.font.specs.Attributes.{attributesOf}
 use Rattle.font.specs.Single.{single}
 use lib.Ieee.{ofInt, round, ofBits}
-use Prim.Native.Nat.{ℕ}
-use mathlib.Core.Path.{_≡_, refl, sym, _∙_, ap}
-use mathlib.Core.Bool.{true, false}
+use mathlib.Core.Path.{_≡_, sym, _∙_, ap}
+use mathlib.Core.Bool.{false}
 use borrow.Author.Tests.{lt-ltb, le-ltb}
 use Rattle.matching.specs.Order.{choice}
 use Rattle.matching.specs.Matching.{familyOf, requestOf, defaultPlace}

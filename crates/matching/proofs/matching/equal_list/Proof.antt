@@ -1,6 +1,6 @@
-use Prim.Native.Nat.{ℕ, _-_, _≤_}
+-- The invariant: the three arrays hold the numbers of the faces passed, and zeros after them.
+use Prim.Native.Nat.{_-_, _≤_}
 use mathlib.Core.Path.{_≡_, _∙_, ap, subst}
-use mathlib.Core.List.{List}
 use native.Mathlib.Omega.{arith}
 use lib.ListN.{getD}
 use borrow.Author.Needs.{needs}

@@ -1,3 +1,4 @@
+-- The invariant: no face passed is refused as 19, and the refusal is 26 exactly if one is refused as 26.
 use Prim.Native.Nat.{ℕ, _-_, _≤_}
 use mathlib.Core.Path.{_≡_, refl, sym, _∙_, ap}
 use mathlib.Core.Bool.{Bool, true, false, cond, _||_}

@@ -1,9 +1,8 @@
-use mathlib.Core.Path.{_≡_, sym, _∙_, ap, subst}
-use borrow.Author.Tests.{lt-ltb, le-ltb}
-use Rattle.matching.specs.declared.matching.Choice.{Choice}
-use Rattle.matching.specs.declared.matching.Choice.the-variants.{Place, Nothing, Refused}
+-- Each answer is the definition's, and so has what demand 3 says: `chosen` of proofs/Matched.antt.
+use mathlib.Core.Path.{sym, _∙_, ap, subst}
+use Rattle.matching.specs.declared.matching.Choice.the-variants.{Refused}
 use Rattle.matching.specs.Order.{choice}
-use Rattle.matching.specs.Matching.{familyOf, requestOf, attributesFrom, familyRefusal, answered, matchFont, Chosen}
+use Rattle.matching.specs.Matching.{familyOf, requestOf, attributesFrom, Chosen}
 use Rattle.matching.proofs.Matched.{few, refused, found, nothing, chosen}
 use borrow.Author.Needs.{needs}
 use Rattle.matching.proofs.matching.match_font.Statement.{statement}

@@ -1,5 +1,4 @@
-use mathlib.Core.Path.{_≡_, sym, _∙_, ap}
-use Rattle.matching.specs.declared.matching.Matches.{Matches}
+use mathlib.Core.Path.{sym, _∙_, ap}
 use Rattle.matching.specs.Matching.{attributesFrom, equalList}
 use Rattle.matching.proofs.Matched.{place-in}
 use borrow.Author.Needs.{needs}

@@ -1,3 +1,4 @@
+-- The invariant: the four arrays hold the numbers of the faces passed, and zeros after them. So at the end they are the family.
 use Prim.Native.Nat.{ℕ, _-_, _≤_}
 use mathlib.Core.Path.{_≡_, _∙_, ap, subst}
 use mathlib.Core.Bool.{false}

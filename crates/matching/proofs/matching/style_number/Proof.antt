@@ -1,6 +1,6 @@
 use Rattle.font.specs.declared.attributes.Angle.{Angle}
 use Rattle.font.specs.declared.attributes.FontStyle.the-variants.{Oblique}
-use mathlib.Core.Path.{_≡_, sym, ap, _∙_}
+use mathlib.Core.Path.{sym, ap, _∙_}
 use Rattle.matching.specs.Matching.{styleNumber}
 use borrow.Author.Needs.{needs}
 use Rattle.matching.proofs.matching.style_number.Statement.{statement}

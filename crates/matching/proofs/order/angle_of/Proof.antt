@@ -1,5 +1,5 @@
-use borrow.Author.Tests.{lt-ltb, le-ltb, le-leb, lt-leb, eq-eqb, ne-eqb}
-use Rattle.matching.proofs.Numbers.{zero-angle, fourteen-is, minus-fourteen, four-hundred, five-hundred}
+use borrow.Author.Tests.{eq-eqb, ne-eqb}
+use Rattle.matching.proofs.Numbers.{fourteen-is}
 use Rattle.matching.specs.Order.{angle}
 use Rattle.matching.proofs.order.angle_of.Statement.{statement}
 use Rattle.matching.proofs.order.angle_of.Tie as tie

@@ -1,5 +1,5 @@
-use borrow.Author.Tests.{lt-ltb, le-ltb, le-leb, lt-leb, eq-eqb, ne-eqb}
-use Rattle.matching.proofs.Numbers.{zero-angle, fourteen-is, minus-fourteen, four-hundred, five-hundred}
+use borrow.Author.Tests.{lt-ltb, le-ltb, le-leb, lt-leb}
+use Rattle.matching.proofs.Numbers.{zero-angle, minus-fourteen}
 use Rattle.matching.specs.Order.{leftStanding, oblique}
 use borrow.Author.Needs.{needs}
 use Rattle.matching.proofs.order.left_standing.Statement.{statement}

@@ -1,5 +1,5 @@
 use borrow.Author.Tests.{lt-ltb, le-ltb, le-leb, lt-leb, eq-eqb, ne-eqb}
-use Rattle.matching.proofs.Numbers.{zero-angle, fourteen-is, minus-fourteen, four-hundred, five-hundred}
+use Rattle.matching.proofs.Numbers.{four-hundred, five-hundred}
 use Rattle.matching.specs.Order.{weightStanding}
 use Rattle.matching.proofs.order.weight_standing.Statement.{statement}
 use Rattle.matching.proofs.order.weight_standing.Tie as tie

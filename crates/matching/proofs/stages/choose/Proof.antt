@@ -1,4 +1,5 @@
-use mathlib.Core.Path.{sym, refl, _∙_}
+-- What the three scans find is the choice: `found-none` and `found-one` of proofs/Scans.antt.
+use mathlib.Core.Path.{sym, _∙_}
 use native.Mathlib.Omega.{arith}
 use borrow.Author.Tests.{lt-ltb}
 use denote.Ref.{now}

@@ -1,10 +1,11 @@
+-- The invariant: the array holds the equal places passed, in order, and zeros after them.
 use Prim.Native.Nat.{ℕ, _-_, _≤_}
 use mathlib.Core.Path.{_≡_, refl, sym, _∙_, ap}
 use mathlib.Core.Logic.{⊎-elim}
 use native.Mathlib.Omega.{arith}
 use mathlib.Core.Bool.{Bool, _&&_}
 use lib.Dec.{eqb}
-use lib.ListN.{length, set, getD}
+use lib.ListN.{length, getD}
 use borrow.Author.Needs.{needs}
 use denote.Ref.{now}
 use Rattle.matching.specs.Below.{placesBelow}

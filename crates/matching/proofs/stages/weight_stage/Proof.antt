@@ -1,6 +1,7 @@
+-- The invariant: `best` is the least rank of the places passed, and their weights are of 32 bits. The turn is the law of the scans, `least-more`.
 use Prim.Native.Nat.{ℕ, _-_, _^_, _≤_}
-use mathlib.Core.Path.{_≡_, refl, sym, _∙_, ap}
-use mathlib.Core.Bool.{Bool, true, false, cond, _&&_}
+use mathlib.Core.Path.{_≡_, refl, _∙_, ap}
+use mathlib.Core.Bool.{cond, _&&_}
 use mathlib.Core.List.{List}
 use native.Mathlib.Omega.{arith}
 use lib.Dec.{eqb}
@@ -9,10 +10,8 @@ use borrow.Author.Needs.{needs}
 use borrow.Author.Count.{below-more}
 use denote.Ref.{now}
 use Rattle.font.specs.First.{leastBelow}
-use Rattle.matching.specs.declared.order.Request.{Request}
-use Rattle.matching.specs.declared.rank.Standing.{Standing}
 use Rattle.matching.specs.Packed.{packed, Short}
-use Rattle.matching.specs.Order.{widthStanding, styleStanding, weightStanding}
+use Rattle.matching.specs.Order.{weightStanding}
 use Rattle.matching.proofs.Below.{least-more}
 use Rattle.matching.proofs.stages.weight_stage.Statement.{statement}
 use Rattle.matching.proofs.stages.weight_stage.Tie as tie

@@ -1,18 +1,15 @@
+-- The invariant: `best` is the least rank of the places passed, and their percents are of 32 bits. The turn is the law of the scans, `least-more`.
 use Prim.Native.Nat.{ℕ, _-_, _^_, _≤_}
-use mathlib.Core.Path.{_≡_, refl, sym, _∙_, ap}
-use mathlib.Core.Bool.{Bool, true, false, cond, _&&_}
+use mathlib.Core.Path.{_≡_, refl, _∙_, ap}
 use mathlib.Core.List.{List}
 use native.Mathlib.Omega.{arith}
-use lib.Dec.{eqb}
 use lib.ListN.{getD}
 use borrow.Author.Needs.{needs}
 use borrow.Author.Count.{below-more}
 use denote.Ref.{now}
 use Rattle.font.specs.First.{leastBelow}
-use Rattle.matching.specs.declared.order.Request.{Request}
-use Rattle.matching.specs.declared.rank.Standing.{Standing}
 use Rattle.matching.specs.Packed.{packed, Short}
-use Rattle.matching.specs.Order.{widthStanding, styleStanding, weightStanding}
+use Rattle.matching.specs.Order.{widthStanding}
 use Rattle.matching.proofs.Below.{least-more}
 use Rattle.matching.proofs.stages.width_stage.Statement.{statement}
 use Rattle.matching.proofs.stages.width_stage.Tie as tie

@@ -1,5 +1,5 @@
-use mathlib.Core.Path.{_≡_, refl, sym, _∙_, ap}
-use Rattle.matching.proofs.Numbers.{zero-angle, single-0, single-1, single-14, single-100, single-200}
+use mathlib.Core.Path.{sym, _∙_, ap}
+use Rattle.matching.proofs.Numbers.{single-14}
 use Rattle.matching.specs.Synthesis.{degreesOf}
 use borrow.Author.Needs.{needs}
 use Rattle.matching.proofs.synthesis.degrees.Statement.{statement}

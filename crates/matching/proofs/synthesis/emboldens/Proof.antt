@@ -1,4 +1,4 @@
-use Rattle.matching.proofs.Numbers.{zero-angle, single-0, single-1, single-14, single-100, single-200}
+use Rattle.matching.proofs.Numbers.{single-200}
 use Rattle.matching.specs.Synthesis.{emboldened}
 use Rattle.matching.proofs.synthesis.emboldens.Statement.{statement}
 use Rattle.matching.proofs.synthesis.emboldens.Tie as tie

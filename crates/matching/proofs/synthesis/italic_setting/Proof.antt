@@ -1,4 +1,4 @@
-use Rattle.matching.proofs.Numbers.{zero-angle, single-0, single-1, single-14, single-100, single-200}
+use Rattle.matching.proofs.Numbers.{single-1, single-14}
 use Rattle.matching.specs.Matching.{slnt}
 use Rattle.matching.specs.Synthesis.{italicSetting, ital}
 use Rattle.matching.proofs.synthesis.italic_setting.Statement.{statement}

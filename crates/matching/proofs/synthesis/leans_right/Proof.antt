@@ -1,4 +1,4 @@
-use Rattle.matching.proofs.Numbers.{zero-angle, single-0, single-1, single-14, single-100, single-200}
+use Rattle.matching.proofs.Numbers.{zero-angle}
 use Rattle.matching.specs.Synthesis.{leansRight}
 use borrow.Author.Needs.{needs}
 use Rattle.matching.proofs.synthesis.leans_right.Statement.{statement}

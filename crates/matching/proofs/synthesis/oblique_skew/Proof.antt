@@ -1,6 +1,6 @@
 use mir.Syntax.{w8}
 use mir.ValLaws.{toZ-ofZ}
-use mathlib.Core.Path.{_≡_, sym, _∙_}
+use mathlib.Core.Path.{sym, _∙_}
 use Rattle.matching.specs.Synthesis.{obliqueSkew}
 use borrow.Author.Needs.{needs}
 use Rattle.matching.proofs.synthesis.oblique_skew.Statement.{statement}

@@ -1,6 +1,6 @@
 use mir.Syntax.{w8}
 use mir.ValLaws.{toZ-ofZ}
-use mathlib.Core.Path.{_≡_, refl, sym, _∙_, ap}
+use mathlib.Core.Path.{sym, _∙_, ap}
 use Rattle.matching.specs.Synthesis.{skewOf, obliqueSkew}
 use borrow.Author.Needs.{needs}
 use Rattle.matching.proofs.synthesis.skew_of.Statement.{statement}

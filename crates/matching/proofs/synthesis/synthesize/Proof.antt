@@ -1,3 +1,4 @@
+-- Each call gives what its definition says; the skew comes back from its eight bits.
 use mir.Syntax.{w8}
 use mir.ValLaws.{toZ-ofZ}
 use mathlib.Core.Path.{_∙_}

@@ -1,5 +1,5 @@
-use borrow.Author.Tests.{lt-ltb, le-ltb, le-leb, lt-leb, eq-eqb, ne-eqb}
-use Rattle.matching.proofs.Numbers.{zero-angle, single-0, single-1, single-14, single-100, single-200}
+use borrow.Author.Tests.{eq-eqb, ne-eqb}
+use Rattle.matching.proofs.Numbers.{single-100}
 use Rattle.matching.specs.Synthesis.{widthSetting, wdth}
 use borrow.Author.Needs.{needs}
 use Rattle.matching.proofs.synthesis.width_setting.Statement.{statement}

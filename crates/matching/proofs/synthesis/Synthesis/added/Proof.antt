@@ -1,4 +1,4 @@
-use mathlib.Core.Path.{_≡_, refl, sym, _∙_, ap}
+use mathlib.Core.Path.{sym, _∙_, ap}
 use Rattle.matching.specs.Synthesis.{added}
 use borrow.Author.Needs.{needs}
 use Rattle.matching.proofs.synthesis.Synthesis.added.Statement.{statement}

@@ -1,5 +1,5 @@
-use mathlib.Core.Path.{_≡_, refl, sym, _∙_, ap}
-use borrow.Author.Tests.{lt-ltb, le-ltb, le-leb, lt-leb, eq-eqb, ne-eqb}
+use mathlib.Core.Path.{sym}
+use borrow.Author.Tests.{lt-ltb, le-ltb}
 use Rattle.matching.specs.Synthesis.{put}
 use borrow.Author.Needs.{needs}
 use Rattle.matching.proofs.synthesis.Synthesis.put.Statement.{statement}

@@ -2,7 +2,7 @@ use mir.Syntax.{w8}
 use mir.ValLaws.{toZ-ofZ}
 use mathlib.Core.Path.{sym}
 use mathlib.Core.List.{[], _∷_}
-use Rattle.matching.proofs.Numbers.{zero-angle, single-0, single-1, single-14, single-100, single-200}
+use Rattle.matching.proofs.Numbers.{single-0}
 use Rattle.matching.specs.Synthesis.{unvaried}
 use Rattle.matching.proofs.synthesis.Synthesis.unvaried.Statement.{statement}
 use Rattle.matching.proofs.synthesis.Synthesis.unvaried.Tie as tie
