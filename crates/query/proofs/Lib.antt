@@ -1,0 +1,5 @@
+-- Laws that the proofs of `query` share, and the theorems on the job's layout.
+pub mod Ends
+pub mod Singles
+pub mod Leaves
+pub mod Fonts
