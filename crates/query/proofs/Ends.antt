@@ -154,3 +154,14 @@ many-length {A} r (suc n) s p xs q e = first (many-length r n s) (r s p) e
 pub many-over : {A : Type 0} (r : Reader A) (n : ℕ) (s : List ℕ) (p : ℕ) → n ≤ 0 → record { refusal = 0; at = p } ≡ ended (many n r s p)
 many-over r zero s p l = many-none r s p
 many-over r (suc n) s p l = absurd (omega arith)
+
+-- ---- what was read, taken apart
+
+pub then-got : {A B : Type 0} (r : Reader A) (k : A → Reader B) (s : List ℕ) (p : ℕ) (b : B) (t : ℕ)
+    → (r >>= k) s p ≡ got b t → (a : A) × (q : ℕ) × (r s p ≡ got a q) × (k a s q ≡ got b t)
+unfolding _>>=_ onward
+then-got {A} r k s p b t = go (r s p) refl
+  where
+    go : (g : Got A) → r s p ≡ g → onward g (λ a q. k a s q) ≡ got b t → (a : A) × (q : ℕ) × (r s p ≡ got a q) × (k a s q ≡ got b t)
+    go (refused w x) h e = absurd (let z : _≡_ {A = ℕ} 0 1 = cc in omega arith)
+    go (got a q) h e = (a, q, h, e)

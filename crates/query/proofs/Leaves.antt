@@ -3,16 +3,16 @@ use Prim.Native.Nat.{ℕ, _+_}
 use mathlib.Core.Path.{_≡_, refl, sym, ap, _∙_}
 use mathlib.Core.Bool.{Bool, true, false, cond}
 use mathlib.Core.List.{List}
-use lib.ListN.{getD}
+use lib.ListN.{length, getD}
 use lib.Dec.{leb, ltb, eqb}
 use lib.Ieee.{Float, binary32, ofBits}
 use lib.Ieee.Scale.{finite}
 use Rattle.font.specs.Single.{acceptedRatio}
 use Rattle.font.specs.Tables.{u16At, u32At}
 use Rattle.query.specs.declared.fields.At.{At}
-use Rattle.query.specs.Reader.{Reader, overLimit, notHeld, noFace, unknown, badNumber, got, done, _>>=_, ended}
-use Rattle.query.specs.Fields.{byte, half, word, single, ratio, value, count, heldByte, faceNumber, mask, kind, spareByte, spareWord, orSpare}
-use Rattle.query.proofs.Ends.{Read, field-read, tested-read, ends}
+use Rattle.query.specs.Reader.{Reader, overLimit, notHeld, noFace, unknown, badNumber, got, done, _>>=_, many, ended}
+use Rattle.query.specs.Fields.{byte, half, word, single, ratio, value, count, counted, heldByte, faceNumber, mask, kind, spareByte, spareWord, orSpare}
+use Rattle.query.proofs.Ends.{Read, field-read, tested-read, ends, then-got, many-length}
 
 abbrev pub byteAt : List ℕ → ℕ → ℕ
 byteAt s p = getD s p 0
@@ -79,3 +79,10 @@ or-spare-ends true true none r f s p h e = ends r f s p e
 or-spare-ends false false none r f s p h e = ends spareWord (λ v. none) s p e
 or-spare-ends true false none r f s p h e = absurd (let z : _≡_ {A = ℕ} 0 1 = cc in omega native.Mathlib.Omega.arith)
 or-spare-ends false true none r f s p h e = absurd (let z : _≡_ {A = ℕ} 0 1 = cc in omega native.Mathlib.Omega.arith)
+
+-- entries after a 16-bit count are as many as it says
+pub counted-length : {A : Type 0} (limit : ℕ) (r : Reader A) (s : List ℕ) (p : ℕ) (xs : List A) (q : ℕ) → counted limit r s p ≡ got xs q → length xs ≡ u16At s p
+unfolding counted
+counted-length limit r s p xs q e =
+    let h = then-got (count limit) (λ n. many n r) s p xs q e in
+    many-length r (h .0) s (h .1) xs q (h .3) ∙ count-read limit s p (h .0) (h .1) (h .2) .value

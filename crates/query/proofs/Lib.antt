@@ -3,3 +3,5 @@ pub mod Ends
 pub mod Singles
 pub mod Leaves
 pub mod Fonts
+pub mod Checks
+pub mod Positions

@@ -18,7 +18,7 @@ font-file-requires c κs = search needs
 
 returns-2 : tie.Need-returns-2
 unfolding readFace
-returns-2 c = goes _ _ _ _ (c .before .before .before .before .held .ensures) (c .before .before .if1 .left) (λ v e. ends _ _ _ _ (c .font-file .ensures))
+returns-2 c = goes _ _ _ _ (c .before .before .before .held .ensures) (c .before .if1 .left) (λ v e. ends _ _ _ _ (c .font-file .ensures))
 
 pub face-spec : {M : Type 1} → statement M
 face-spec = tie.close (tie.spec held-requires returns font-file-requires returns-2)

@@ -10,10 +10,10 @@ use Rattle.query.proofs.entries.number_run.Statement.{statement}
 use Rattle.query.proofs.entries.number_run.Tie as tie
 
 abbrev Inv-loop : tie.InvT-loop
-Inv-loop job at count place₀ left₀ place left = ?
+Inv-loop job at count place₀ left₀ place left = ended (many left half job place) ≡ ended (many count half job at)
 
 abbrev μ-loop : tie.MeasureT-loop
-μ-loop job at count place₀ left₀ place left = ?
+μ-loop job at count place₀ left₀ place left = left
 
 loop-holds : tie.Need-loop-holds Inv-loop μ-loop
 loop-holds c = refl

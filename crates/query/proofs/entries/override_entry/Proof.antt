@@ -1,49 +1,43 @@
+-- `query::entries::override_entry` meets its contract.
+-- Assumes nothing.
+use mathlib.Core.Path.{sym, _∙_}
+use Rattle.query.specs.Entries.{readOverride}
+use Rattle.query.proofs.Ends.{stops, goes, ends}
+use Rattle.query.proofs.Leaves.{mask-read}
 use borrow.Author.Needs.{needs}
 use Rattle.query.proofs.entries.override_entry.Statement.{statement}
 use Rattle.query.proofs.entries.override_entry.Tie as tie
-use Rattle.query.proofs.entries.override_entry.Reads as reads
-use Rattle.query.proofs.entries.override_entry.Lts as lts
-use Rattle.query.proofs.entries.given.Reads as given-reads
-use Rattle.query.proofs.entries.pairs.Reads as pairs-reads
-use Rattle.query.proofs.fields.byte_at.Reads as byte-at-reads
-use Rattle.query.proofs.fields.face_number.Reads as face-number-reads
-use Rattle.query.proofs.fields.mask.Reads as mask-reads
 
--- src/entries.rt:126:9
 face-number-requires : tie.Need-face-number-requires
 face-number-requires c κs = search needs
 
--- src/entries.rt:128:9
 returns : tie.Need-returns
-returns c = ?
+unfolding readOverride
+returns c = stops _ _ _ _ (c .before .before .face-number .ensures) (c .if1 .taken)
 
--- src/entries.rt:130:9
 mask-requires : tie.Need-mask-requires
 mask-requires c κs = search needs
 
--- src/entries.rt:132:9
 returns-2 : tie.Need-returns-2
-returns-2 c = ?
+unfolding readOverride
+returns-2 c = goes _ _ _ _ (c .before .before .before .before .before .face-number .ensures) (c .before .before .before .if1 .left) (λ v e. stops _ _ _ _ (c .before .before .mask .ensures) (c .if2 .taken))
 
--- src/entries.rt:134:37
 byte-at-requires : tie.Need-byte-at-requires
 byte-at-requires c κs = search needs
 
--- src/entries.rt:134:9
 given-requires : tie.Need-given-requires
 given-requires c κs = search needs
 
--- src/entries.rt:136:9
 returns-3 : tie.Need-returns-3
-returns-3 c = ?
+unfolding readOverride
+returns-3 c = goes _ _ _ _ (c .before .before .before .before .before .before .before .before .before .face-number .ensures) (c .before .before .before .before .before .before .before .if1 .left) (λ v e. goes _ _ _ _ (c .before .before .before .before .before .before .mask .ensures) (c .before .before .before .before .if2 .left) (λ m g. stops _ _ _ _ (rw (mask-read _ _ _ _ g .value ∙ sym (c .before .before .before .byte-at .ensures)) (c .before .before .given .ensures)) (c .if3 .taken)))
 
--- src/entries.rt:138:5
 pairs-requires : tie.Need-pairs-requires
 pairs-requires c κs = search needs
 
--- src/entries.rt:123:1
 returns-4 : tie.Need-returns-4
-returns-4 c = ?
+unfolding readOverride
+returns-4 c = goes _ _ _ _ (c .before .before .before .before .before .before .before .before .before .before .face-number .ensures) (c .before .before .before .before .before .before .before .before .if1 .left) (λ v e. goes _ _ _ _ (c .before .before .before .before .before .before .before .mask .ensures) (c .before .before .before .before .before .if2 .left) (λ m g. goes _ _ _ _ (rw (mask-read _ _ _ _ g .value ∙ sym (c .before .before .before .before .byte-at .ensures)) (c .before .before .before .given .ensures)) (c .before .if3 .left) (λ w h. ends _ _ _ _ (c .pairs .ensures))))
 
 pub override-entry-spec : {M : Type 1} → statement M
 override-entry-spec =

@@ -1,35 +1,32 @@
+-- `query::entries::pairs` meets its contract.
+-- Assumes nothing.
+use mathlib.Core.Path.{sym, _∙_}
+use Rattle.query.specs.Fields.{byteCounted}
+use Rattle.query.proofs.Ends.{stops, goes}
+use Rattle.query.proofs.Leaves.{byte-read}
 use borrow.Author.Needs.{needs}
 use Rattle.query.proofs.entries.pairs.Statement.{statement}
 use Rattle.query.proofs.entries.pairs.Tie as tie
-use Rattle.query.proofs.entries.pairs.Reads as reads
-use Rattle.query.proofs.entries.pairs.Lts as lts
-use Rattle.query.proofs.entries.pair_run.Reads as pair-run-reads
-use Rattle.query.proofs.fields.byte.Reads as byte-reads
-use Rattle.query.proofs.fields.byte_at.Reads as byte-at-reads
 
--- src/entries.rt:115:9
 byte-requires : tie.Need-byte-requires
 byte-requires c κs = search needs
 
--- src/entries.rt:117:9
 returns : tie.Need-returns
-returns c = ?
+unfolding byteCounted
+returns c = stops _ _ _ _ (c .before .before .byte .ensures) (c .if1 .taken)
 
--- src/entries.rt:119:29
 byte-at-requires : tie.Need-byte-at-requires
 byte-at-requires c κs = search needs
 
--- src/entries.rt:119:29
 cast-pair-run : tie.Need-cast-pair-run
 cast-pair-run c = search needs
 
--- src/entries.rt:119:5
 pair-run-requires : tie.Need-pair-run-requires
 pair-run-requires c κs = search needs
 
--- src/entries.rt:112:1
 returns-2 : tie.Need-returns-2
-returns-2 c = ?
+unfolding byteCounted
+returns-2 c = goes _ _ _ _ (c .before .before .before .before .byte .ensures) (c .before .before .if1 .left) (λ n e. rw (byte-read _ _ _ _ e .value ∙ sym (c .before .byte-at .ensures)) (c .pair-run .ensures))
 
 pub pairs-spec : {M : Type 1} → statement M
 pairs-spec =

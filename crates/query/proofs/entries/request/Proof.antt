@@ -1,43 +1,39 @@
+-- `query::entries::request` meets its contract.
+-- Assumes nothing.
+use Rattle.query.specs.Entries.{readRequest}
+use Rattle.query.proofs.Ends.{stops, goes, ends}
 use borrow.Author.Needs.{needs}
 use Rattle.query.proofs.entries.request.Statement.{statement}
 use Rattle.query.proofs.entries.request.Tie as tie
-use Rattle.query.proofs.entries.request.Reads as reads
-use Rattle.query.proofs.entries.request.Lts as lts
-use Rattle.query.proofs.entries.numbers.Reads as numbers-reads
 use Rattle.query.proofs.entries.requested.Reads as requested-reads
-use Rattle.query.proofs.fields.half.Reads as half-reads
 
--- src/entries.rt:219:9
 half-requires : tie.Need-half-requires
 half-requires c κs = search needs
 
--- src/entries.rt:221:9
 returns : tie.Need-returns
-returns c = ?
+unfolding readRequest
+returns c = stops _ _ _ _ (c .before .before .half .ensures) (c .if1 .taken)
 
--- src/entries.rt:223:9
 requested-requires : tie.Need-requested-requires
 requested-requires c κs = search needs
 
--- src/entries.rt:225:9
 returns-2 : tie.Need-returns-2
-returns-2 c = ?
+unfolding readRequest
+returns-2 c = goes _ _ _ _ (c .before .before .before .before .before .half .ensures) (c .before .before .before .if1 .left) (λ v e. stops _ _ _ _ (c .before .before .requested .ensures) (c .if2 .taken))
 
--- src/entries.rt:227:9
 numbers-requires : tie.Need-numbers-requires
 numbers-requires c κs = search needs
 
--- src/entries.rt:229:9
 returns-3 : tie.Need-returns-3
-returns-3 c = ?
+unfolding readRequest
+returns-3 c = goes _ _ _ _ (c .before .before .before .before .before .before .before .before .half .ensures) (c .before .before .before .before .before .before .if1 .left) (λ v e. goes _ _ _ _ (c .before .before .before .before .before .requested .ensures) (c .before .before .before .if2 .left) (λ w g. stops _ _ _ _ (c .before .before .numbers .ensures) (c .if3 .taken)))
 
--- src/entries.rt:231:5
 numbers-requires-2 : tie.Need-numbers-requires-2
 numbers-requires-2 c κs = search needs
 
--- src/entries.rt:216:1
 returns-4 : tie.Need-returns-4
-returns-4 c = ?
+unfolding readRequest
+returns-4 c = goes _ _ _ _ (c .before .before .before .before .before .before .before .before .before .half .ensures) (c .before .before .before .before .before .before .before .if1 .left) (λ v e. goes _ _ _ _ (c .before .before .before .before .before .before .requested .ensures) (c .before .before .before .before .if2 .left) (λ w g. goes _ _ _ _ (c .before .before .before .numbers .ensures) (c .before .if3 .left) (λ x h. ends _ _ _ _ (c .numbers2 .ensures))))
 
 pub request-spec : {M : Type 1} → statement M
 request-spec =

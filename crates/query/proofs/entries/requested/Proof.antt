@@ -1,35 +1,31 @@
+-- `query::entries::requested` meets its contract.
+-- Assumes nothing.
+use Rattle.query.specs.Entries.{readRequested}
+use Rattle.query.proofs.Ends.{stops, goes, ends}
 use borrow.Author.Needs.{needs}
 use Rattle.query.proofs.entries.requested.Statement.{statement}
 use Rattle.query.proofs.entries.requested.Tie as tie
-use Rattle.query.proofs.entries.requested.Reads as reads
-use Rattle.query.proofs.entries.requested.Lts as lts
-use Rattle.query.proofs.entries.style.Reads as style-reads
-use Rattle.query.proofs.fields.ratio.Reads as ratio-reads
-use Rattle.query.proofs.fields.value.Reads as value-reads
 
--- src/entries.rt:205:9
 ratio-requires : tie.Need-ratio-requires
 ratio-requires c κs = search needs
 
--- src/entries.rt:207:9
 returns : tie.Need-returns
-returns c = ?
+unfolding readRequested
+returns c = stops _ _ _ _ (c .before .before .ratio .ensures) (c .if1 .taken)
 
--- src/entries.rt:209:9
 style-requires : tie.Need-style-requires
 style-requires c κs = search needs
 
--- src/entries.rt:211:9
 returns-2 : tie.Need-returns-2
-returns-2 c = ?
+unfolding readRequested
+returns-2 c = goes _ _ _ _ (c .before .before .before .before .before .ratio .ensures) (c .before .before .before .if1 .left) (λ v e. stops _ _ _ _ (c .before .before .style .ensures) (c .if2 .taken))
 
--- src/entries.rt:213:5
 value-requires : tie.Need-value-requires
 value-requires c κs = search needs
 
--- src/entries.rt:202:1
 returns-3 : tie.Need-returns-3
-returns-3 c = ?
+unfolding readRequested
+returns-3 c = goes _ _ _ _ (c .before .before .before .before .before .before .ratio .ensures) (c .before .before .before .before .if1 .left) (λ v e. goes _ _ _ _ (c .before .before .before .style .ensures) (c .before .if2 .left) (λ w g. ends _ _ _ _ (c .value .ensures)))
 
 pub requested-spec : {M : Type 1} → statement M
 requested-spec =

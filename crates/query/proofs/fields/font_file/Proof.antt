@@ -23,7 +23,7 @@ cast-size : tie.Need-cast-size
 cast-size c = search needs
 
 add-start : tie.Need-add-start
-add-start c = omega (arith, ltb-false (length (c .before .before .before .before .before .args .job .now)) (c .before .before .before .before .before .args .at + 4) (sym (c .before .before .before .past .ensures) ∙ c .before .before .if1 .left))
+add-start c = omega (arith, ltb-false (length (c .before .before .before .before .args .job .now)) (c .before .before .before .before .args .at + 4) (sym (c .before .before .past .ensures) ∙ c .before .if1 .left))
 
 past-requires-2 : tie.Need-past-requires-2
 past-requires-2 c κs = search needs

@@ -1,35 +1,32 @@
+-- `query::sections::faces` meets its contract.
+-- Assumes nothing.
+use mathlib.Core.Path.{sym, _∙_}
+use Rattle.query.specs.Fields.{counted}
+use Rattle.query.proofs.Ends.{stops, goes}
+use Rattle.query.proofs.Leaves.{count-read}
 use borrow.Author.Needs.{needs}
 use Rattle.query.proofs.sections.faces.Statement.{statement}
 use Rattle.query.proofs.sections.faces.Tie as tie
-use Rattle.query.proofs.sections.faces.Reads as reads
-use Rattle.query.proofs.sections.faces.Lts as lts
-use Rattle.font.proofs.tables.u16_at.Reads as u16-at-reads
-use Rattle.query.proofs.fields.count.Reads as count-reads
-use Rattle.query.proofs.sections.face_run.Reads as face-run-reads
 
--- src/sections.rt:34:9
 count-requires : tie.Need-count-requires
 count-requires c κs = search needs
 
--- src/sections.rt:36:9
 returns : tie.Need-returns
-returns c = ?
+unfolding counted
+returns c = stops _ _ _ _ (c .before .before .count .ensures) (c .if1 .taken)
 
--- src/sections.rt:38:29
 u16-at-requires : tie.Need-u16-at-requires
 u16-at-requires c κs = search needs
 
--- src/sections.rt:38:29
 cast-face-run : tie.Need-cast-face-run
 cast-face-run c = search needs
 
--- src/sections.rt:38:5
 face-run-requires : tie.Need-face-run-requires
 face-run-requires c κs = search needs
 
--- src/sections.rt:31:1
 returns-2 : tie.Need-returns-2
-returns-2 c = ?
+unfolding counted
+returns-2 c = goes _ _ _ _ (c .before .before .before .before .count .ensures) (c .before .before .if1 .left) (λ n e. rw (count-read _ _ _ _ _ e .value ∙ sym (c .before .u16-at .ensures)) (c .face-run .ensures))
 
 pub faces-spec : {M : Type 1} → statement M
 faces-spec =

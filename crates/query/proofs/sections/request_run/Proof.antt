@@ -1,42 +1,40 @@
+-- `query::sections::request_run` meets its contract. The invariant: what is left to read from here ends as the whole does.
+-- Assumes nothing.
+use mathlib.Core.Path.{_≡_, refl, _∙_}
+use native.Mathlib.Omega.{arith}
+use Rattle.query.specs.Reader.{ended, many}
+use Rattle.query.specs.Entries.{readRequest}
+use Rattle.query.proofs.Ends.{many-stops, many-goes, many-over}
+use borrow.Author.Needs.{needs}
 use Rattle.query.proofs.sections.request_run.Statement.{statement}
 use Rattle.query.proofs.sections.request_run.Tie as tie
-use Rattle.query.proofs.sections.request_run.Reads as reads
-use Rattle.query.proofs.sections.request_run.Lts as lts
-use Rattle.query.proofs.entries.request.Reads as request-reads
 
 abbrev Inv-loop : tie.InvT-loop
-Inv-loop job at count place₀ left₀ place left = ?
+Inv-loop job at count place₀ left₀ place left = ended (many left readRequest job place) ≡ ended (many count readRequest job at)
 
 abbrev μ-loop : tie.MeasureT-loop
-μ-loop job at count place₀ left₀ place left = ?
+μ-loop job at count place₀ left₀ place left = left
 
--- src/sections.rt:106:5
 loop-holds : tie.Need-loop-holds Inv-loop μ-loop
-loop-holds c = ?
+loop-holds c = refl
 
--- src/sections.rt:107:13
 request-requires : tie.Need-request-requires Inv-loop μ-loop
-request-requires c κs = ?
+request-requires c κs = search needs
 
--- src/sections.rt:109:13
 returns : tie.Need-returns Inv-loop μ-loop
-returns c = ?
+returns c = many-stops _ _ _ _ (c .before .before .before .loop-test .taken) (c .before .before .request .ensures) (c .if1 .taken) ∙ c .before .before .before .before .loop .inv
 
--- src/sections.rt:112:9
 sub-left : tie.Need-sub-left Inv-loop μ-loop
-sub-left c = ?
+sub-left c = omega arith
 
--- src/sections.rt:106:5
 loop-less : tie.Need-loop-less Inv-loop μ-loop
-loop-less c = ?
+loop-less c = omega arith
 
--- src/sections.rt:106:5
 loop-again : tie.Need-loop-again Inv-loop μ-loop
-loop-again c = ?
+loop-again c = many-goes _ _ _ _ (c .before .before .before .loop-test .taken) (c .before .before .request .ensures) (c .if1 .left) ∙ c .before .before .before .before .loop .inv
 
--- src/sections.rt:101:1
 returns-2 : tie.Need-returns-2 Inv-loop μ-loop
-returns-2 c = ?
+returns-2 c = many-over _ _ _ _ (c .loop-test .left) ∙ c .before .loop .inv
 
 pub request-run-spec : {M : Type 1} → statement M
 request-run-spec =
