@@ -5,3 +5,5 @@ pub mod Leaves
 pub mod Fonts
 pub mod Checks
 pub mod Positions
+pub mod Stands
+pub mod Exact
