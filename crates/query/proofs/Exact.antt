@@ -155,3 +155,113 @@ exact-word = record {
       record { stands = rw (r .value, r .next) (stands32 s B p (r .inside)); within = rw (r .value) (u32-small s B p) };
   complete = λ s p a q v h. let t = there32 a h in field-is 4 u32At s p a q (t .in-job) (t .is) (t .ends);
 }
+
+-- ---- numbers, counts and spare fields
+
+not-nan : (x : Float) → finite x ≡ true → T (not (isNan x))
+unfolding isNan
+not-nan nan e = absurd (let z : _≡_ {A = ℕ} 0 1 = cc in omega arith)
+not-nan (inf s) e = tt
+not-nan (fin s m k) e = tt
+
+pub ratio-is-finite : (x : Float) → acceptedRatio x ≡ true → finite x ≡ true
+ratio-is-finite x h = go (finite x) refl
+  where
+    go : (b : Bool) → finite x ≡ b → b ≡ true
+    go true e = refl
+    go false e = ratio-finite x e ∙ h
+
+-- the bits of a finite single are its field
+bits-back : (w : ℕ) (x : Float) → w < 2 ^ 32 → x ≡ ofBits binary32 w → finite x ≡ true → toBits binary32 x ≡ w
+bits-back w x l e f =
+    rw e (toBits-ofBits binary32 w l (not-nan (ofBits binary32 w) (rw e at f)))
+
+single-sound : (ok : Float → Bool) → ((x : Float) → ok x ≡ true → finite x ≡ true) → (s : List ℕ) → Bytes s → (p : ℕ) (a : Float) (q : ℕ)
+    → Read 4 singleAt ok s p a q → Stood s p (bytesOf a) q (IsNumber ok a)
+unfolding bytesOf
+single-sound ok f s B p a q r = record {
+  stands = rw (bits-back (u32At s p) a (u32-small s B p) (r .value) (f a (r .passed)), r .next) (stands32 s B p (r .inside));
+  within = record { single = rw (r .value) (ofBits-fits binary32 (u32At s p)); accepted = r .passed };
+}
+
+single-there : {s : List ℕ} {p : ℕ} (x : Float) {q : ℕ} → T (fits binary32 x) → There s p (toBits binary32 x) (u32At s p) 4 q → singleAt s p ≡ x
+single-there x f t = ap (λ (n : ℕ). ofBits binary32 n) (t .is) ∙ ofBits-toBits binary32 x f
+
+pub exact-ratio : Exact ratio bytesOf IsRatio
+unfolding ratio single bytesOf
+exact-ratio = record {
+  sound = λ s B p a q e. single-sound acceptedRatio ratio-is-finite s B p a q (ratio-read s p a q e);
+  complete = λ s p a q v h. let t = there32 (toBits binary32 a) h in
+      tested-is badNumber acceptedRatio 4 singleAt s p a q (t .in-job) (single-there a (v .single) t) (t .ends) (v .accepted);
+}
+
+pub exact-value : Exact value bytesOf IsValue
+unfolding value single bytesOf
+exact-value = record {
+  sound = λ s B p a q e. single-sound finite (λ x h. h) s B p a q (value-read s p a q e);
+  complete = λ s p a q v h. let t = there32 (toBits binary32 a) h in
+      tested-is badNumber finite 4 singleAt s p a q (t .in-job) (single-there a (v .single) t) (t .ends) (v .accepted);
+}
+
+pub exact-count : (limit : ℕ) → Exact (count limit) bytes16 (λ n. n ≤ limit)
+unfolding count half
+exact-count limit = record {
+  sound = λ s B p a q e. let r = count-read limit s p a q e in
+      record { stands = rw (r .value, r .next) (stands16 s B p (r .inside)); within = leb-true a limit (r .passed) };
+  complete = λ s p a q v h. let t = there16 a h in
+      tested-is overLimit (λ n. leb n limit) 2 u16At s p a q (t .in-job) (t .is) (t .ends) (le-leb a limit v);
+}
+
+pub exact-held : Exact heldByte bytes8 (λ n. n ≤ 1)
+unfolding heldByte byte
+exact-held = record {
+  sound = λ s B p a q e. let r = held-read s p a q e in
+      record { stands = rw (r .value, r .next) (stands8 s p (r .inside)); within = leb-true a 1 (r .passed) };
+  complete = λ s p a q v h. let t = there8 a h in
+      tested-is notHeld (λ n. leb n 1) 1 byteAt s p a q (t .in-job) (t .is) (t .ends) (le-leb a 1 v);
+}
+
+pub exact-face-number : (n : ℕ) → Exact (faceNumber n) bytes16 (λ i. (i < n) × Fits16 i)
+unfolding faceNumber half
+exact-face-number n = record {
+  sound = λ s B p a q e. let r = face-number-read n s p a q e in
+      record { stands = rw (r .value, r .next) (stands16 s B p (r .inside)); within = (ltb-true a n (r .passed), rw (r .value) (u16-small s B p)) };
+  complete = λ s p a q v h. let t = there16 a h in
+      tested-is noFace (λ i. ltb i n) 2 u16At s p a q (t .in-job) (t .is) (t .ends) (lt-ltb a n (v .0));
+}
+
+pub exact-mask : Exact mask bytes8 (λ n. n ≤ 7)
+unfolding mask byte
+exact-mask = record {
+  sound = λ s B p a q e. let r = mask-read s p a q e in
+      record { stands = rw (r .value, r .next) (stands8 s p (r .inside)); within = leb-true a 7 (r .passed) };
+  complete = λ s p a q v h. let t = there8 a h in
+      tested-is unknown (λ n. leb n 7) 1 byteAt s p a q (t .in-job) (t .is) (t .ends) (le-leb a 7 v);
+}
+
+pub exact-kind : Exact kind bytes8 (λ n. n ≤ 3)
+unfolding kind byte
+exact-kind = record {
+  sound = λ s B p a q e. let r = kind-read s p a q e in
+      record { stands = rw (r .value, r .next) (stands8 s p (r .inside)); within = leb-true a 3 (r .passed) };
+  complete = λ s p a q v h. let t = there8 a h in
+      tested-is unknown (λ n. leb n 3) 1 byteAt s p a q (t .in-job) (t .is) (t .ends) (le-leb a 3 v);
+}
+
+pub exact-spare-byte : Exact spareByte bytes8 (λ n. n ≡ 0)
+unfolding spareByte byte
+exact-spare-byte = record {
+  sound = λ s B p a q e. let r = spare-byte-read s p a q e in
+      record { stands = rw (r .value, r .next) (stands8 s p (r .inside)); within = eqb-true a 0 (r .passed) };
+  complete = λ s p a q v h. let t = there8 a h in
+      tested-is unknown (λ n. eqb n 0) 1 byteAt s p a q (t .in-job) (t .is) (t .ends) (eq-eqb a 0 v);
+}
+
+pub exact-spare-word : Exact spareWord bytes32 (λ n. n ≡ 0)
+unfolding spareWord word
+exact-spare-word = record {
+  sound = λ s B p a q e. let r = spare-word-read s p a q e in
+      record { stands = rw (r .value, r .next) (stands32 s B p (r .inside)); within = eqb-true a 0 (r .passed) };
+  complete = λ s p a q v h. let t = there32 a h in
+      tested-is unknown (λ n. eqb n 0) 4 u32At s p a q (t .in-job) (t .is) (t .ends) (eq-eqb a 0 v);
+}

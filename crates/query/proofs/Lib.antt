@@ -7,3 +7,5 @@ pub mod Checks
 pub mod Positions
 pub mod Stands
 pub mod Exact
+pub mod ExactLists
+pub mod ExactEntries
