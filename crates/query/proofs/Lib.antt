@@ -9,3 +9,4 @@ pub mod Stands
 pub mod Exact
 pub mod ExactLists
 pub mod ExactEntries
+pub mod AcceptedJobs
