@@ -35,7 +35,7 @@ tested-ends why ok n v s p = go (leb (p + n) (length s)) (ok (v s p)) refl
   where
     go : (a b : Bool) → ok (v s p) ≡ b
         → cond a (cond b (record { refusal = 0; at = p + n }) (record { refusal = number why; at = p })) (record { refusal = 18; at = p })
-            ≡ ended (onward (cond a (got (v s p) (p + n)) (refused pastEnd p)) (λ x q. cond (ok x) (got x q) (refused why p)))
+        ≡ ended (onward (cond a (got (v s p) (p + n)) (refused pastEnd p)) (λ x q. cond (ok x) (got x q) (refused why p)))
     go true true e = rw e
     go true false e = rw e
     go false b e = refl
@@ -46,7 +46,7 @@ unfolding fieldEnd ended field number
 field-ends why n v s p = go (leb (p + n) (length s))
   where
     go : (a : Bool) → cond a (record { refusal = 0; at = p + n }) (record { refusal = 18; at = p })
-            ≡ ended (cond a (got (v s p) (p + n)) (refused pastEnd p))
+        ≡ ended (cond a (got (v s p) (p + n)) (refused pastEnd p))
     go true = refl
     go false = refl
 
@@ -146,6 +146,7 @@ many-length {A} r (suc n) s p xs q e = first (many-length r n s) (r s p) e
         → onward g (λ rest t. got (v ∷ rest) t) ≡ got xs q → length xs ≡ suc n
     second v (refused w t) back e = absurd (let z : _≡_ {A = ℕ} 0 1 = cc in omega arith)
     second v (got ys t) back e = let same : xs ≡ v ∷ ys = cc in rw same (ap suc (back ys t refl))
+
     first : ((t : ℕ) (ys : List A) (u : ℕ) → many n r s t ≡ got ys u → length ys ≡ n)
         → (g : Got A) → onward g (λ v t. onward (many n r s t) (λ rest u. got (v ∷ rest) u)) ≡ got xs q → length xs ≡ suc n
     first back (refused w t) e = absurd (let z : _≡_ {A = ℕ} 0 1 = cc in omega arith)

@@ -75,7 +75,6 @@ module _ {A C : Type 0} (r : Reader A) (e : A → List ℕ) (W : A → Type 0) (
     (given-none : given none ≡ false) (layout-none : layout none ≡ bytes32 0) (fits-none : Fits none)
     (given-make : (a : A) → given (make a) ≡ true) (layout-make : (a : A) → layout (make a) ≡ e a) (fits-make : (a : A) → W a → Fits (make a))
     (made : (c : C) → given c ≡ true → Fits c → (a : A) × (make a ≡ c) × W a) (not-made : (c : C) → given c ≡ false → none ≡ c) where
-
   or-spare-sound : (b : Bool) (s : List ℕ) → Bytes s → (p : ℕ) (c : C) (q : ℕ) → orSpare b none (r >>= (λ a. done (make a))) s p ≡ got c q
       → Stood s p (layout c) q ((given c ≡ b) × Fits c)
   unfolding orSpare
@@ -358,7 +357,7 @@ exact-override n = record {
       let e = split (layoutGiven (a .given)) (after8 layoutPair (a .pairs)) (c .second) in
       let m = bits-of (a .given) in
       let by : GivenBy (maskOf (a .given)) (a .given) =
-          record { width = (m .lowest, w .width); style = (m .middle, w .style); weight = (m .highest, w .weight) } in
+      record { width = (m .lowest, w .width); style = (m .middle, w .style); weight = (m .highest, w .weight) } in
       then-is (faceNumber n) _ s p (a .face) _ (exact-face-number n .complete s p (a .face) _ (w .face) (d .first))
       (then-is mask _ s _ (maskOf (a .given)) _ (exact-mask .complete s _ (maskOf (a .given)) _ (m .small) (c .first))
       (then-is (readGiven (maskOf (a .given))) _ s _ (a .given) _ (exact-given (maskOf (a .given)) .complete s _ (a .given) _ by (e .first))

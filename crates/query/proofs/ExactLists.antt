@@ -126,11 +126,13 @@ font-taken-got place f s p a q = go (eqb (fromFontRef f .refusal) 0) (fontRefusa
 -- a part of the job stands in it
 part-stands : (s : List ℕ) (p n : ℕ) (f : List ℕ) (q : ℕ) → Part s p n f q → (length f ≡ n) × Stands s p f q
 part-stands s p n f q h =
-    let long : length f ≡ n = rw (← h .is) (length-take-le n (drop p s) (rw (length-drop p s) (omega (arith, h .in-job)))) in
-    (long, record {
-      next = omega (arith, h .ends);
-      rest = sym (take-append-drop n (drop p s)) ∙ (rw (h .is, drop-drop n p s, ← h .ends) refl);
-    })
+    let long : length f ≡ n = rw (← h .is) (length-take-le n (drop p s) (rw (length-drop p s) (omega (arith, h .in-job)))) in (
+      long,
+      record {
+        next = omega (arith, h .ends);
+        rest = sym (take-append-drop n (drop p s)) ∙ (rw (h .is, drop-drop n p s, ← h .ends) refl);
+      },
+    )
 
 abbrev pub FontFits : List ℕ → Type 0
 FontFits f = Fits32 (length f) × (fromFontRef f .refusal ≡ 0)

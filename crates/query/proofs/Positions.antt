@@ -53,6 +53,7 @@ stays-tested {A} why ok {r} f = record { stays = λ s p h. go s p h (r s p) (f .
     last : (s : List ℕ) (p : ℕ) → p ≤ length s → (a : A) (q : ℕ) (b : Bool) → q ≤ length s → place (cond b (got a q) (refused why p)) ≤ length s
     last s p h a q true l = l
     last s p h a q false l = h
+
     go : (s : List ℕ) (p : ℕ) → p ≤ length s → (x : Got A) → place x ≤ length s → place (onward x (λ a q. cond (ok a) (got a q) (refused why p))) ≤ length s
     go s p h (refused w q) l = l
     go s p h (got a q) l = last s p h a q (ok a) l
@@ -115,9 +116,11 @@ font-file-stays s p h = first (word s p) (stays-word .stays s p h)
     last : (b : Bool) (f : List ℕ) (q : ℕ) (w : Refusal) → q ≤ length s → place (cond b (got f q) (refused w p)) ≤ length s
     last true f q w l = l
     last false f q w l = h
+
     second : (x : Got (List ℕ)) → place x ≤ length s → place (onward x (λ f q. fontTaken p f s q)) ≤ length s
     second (refused w q) l = l
     second (got f q) l = last (eqb (fromFontRef f .refusal) 0) f q (fontRefusal (fromFontRef f .refusal)) l
+
     first : (x : Got ℕ) → place x ≤ length s
         → place (onward x (λ n q. onward (fontBytes p n s q) (λ f t. fontTaken p f s t))) ≤ length s
     first (refused w q) l = l
@@ -199,7 +202,7 @@ position-in-job s = limit (leb (length s) 16777216) refl
   where
     limit : (b : Bool) → leb (length s) 16777216 ≡ b
         → (answer (cond b (readSections s 0) (refused overlong 0)) .position ≤ length s)
-            × (answer (cond b (readSections s 0) (refused overlong 0)) .position ≤ 16777216)
+        × (answer (cond b (readSections s 0) (refused overlong 0)) .position ≤ 16777216)
     limit true e =
         let h = answer-in s (readSections s 0) (stays-sections .stays s 0 (omega arith)) in
         (h, omega (arith, leb-true (length s) 16777216 e))

@@ -37,7 +37,7 @@ pub bits-finite : (b : ℕ) → ltb (b % 0x80000000) 0x7F800000 ≡ finite (ofBi
 unfolding ofBits
 bits-finite b =
     under (b % 0x80000000) (b % 0x80000000 / 0x800000) (omega arith) refl
-        ∙ sym (fields-finite _ (b % 0x80000000 / 0x800000) _)
+    ∙ sym (fields-finite _ (b % 0x80000000 / 0x800000) _)
 
 no-nan : (x : Float) → finite x ≡ true → isNan x ≡ false
 unfolding isNan

@@ -27,7 +27,7 @@ pub split : {s : List ℕ} {p : ℕ} (x y : List ℕ) {t : ℕ} → Stands s p (
 split {s} {p} x y {t} a =
     let all : drop p s ≡ x ++ (y ++ drop t s) = a .rest ∙ append-assoc x y (drop t s) in
     let after : drop (p + length x) s ≡ y ++ drop t s =
-        sym (drop-drop (length x) p s) ∙ (ap (λ (z : List ℕ). drop (length x) z) all ∙ drop-append-seam x (y ++ drop t s)) in
+    sym (drop-drop (length x) p s) ∙ (ap (λ (z : List ℕ). drop (length x) z) all ∙ drop-append-seam x (y ++ drop t s)) in
     record {
       first = record { next = refl; rest = all ∙ ap (λ (z : List ℕ). x ++ z) (sym after) };
       second = record { next = omega (arith, length-append x y, a .next); rest = after };

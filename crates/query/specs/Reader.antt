@@ -42,7 +42,6 @@ onward (refused why p) k = refused why p
 onward (got a p) k = k a p
 
 infixl 20 _>>=_
-
 -- one field or entry after another
 unfoldable pub _>>=_ : {A B : Type 0} → Reader A → (A → Reader B) → Reader B
 _>>=_ r k s p = onward (r s p) (λ a q. k a s q)

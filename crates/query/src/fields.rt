@@ -41,7 +41,8 @@ fn tested(job: &[u8], at: usize, size: usize, ok: bool, refusal: u8) -> At
     ensures { λ r. ⌜ r ≡ fieldEnd (now (job .entry)) at size ok refusal ⌝ }
 {
     if past(job, at, size) {
-        return At { refusal: 18, at };
+        let refusal: u8 = 18;
+        return At { refusal, at };
     }
     if ok {
         At {
@@ -165,9 +166,7 @@ pub fn font_file(job: &[u8], at: usize) -> At
             at: end,
         }
     } else {
-        At {
-            refusal: font.refusal,
-            at,
-        }
+        let refusal = font.refusal;
+        At { refusal, at }
     }
 }

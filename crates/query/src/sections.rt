@@ -12,14 +12,14 @@ fn face_run(job: &[u8], at: usize, count: usize) -> At
     ensures { λ r. ⌜ r ≡ ended (many count readFace (now (job .entry)) at) ⌝ }
 {
     let mut place = at;
-    let mut left = count;
-    while 0 < left {
+    let mut faces_left = count;
+    while 0 < faces_left {
         let next = entries::face(job, place);
         if next.refusal != 0 {
             return next;
         }
         place = next.at;
-        left -= 1;
+        faces_left -= 1;
     }
     At {
         refusal: 0,

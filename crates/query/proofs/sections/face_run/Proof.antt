@@ -24,8 +24,8 @@ face-requires c κs = search needs
 returns : tie.Need-returns Inv-loop μ-loop
 returns c = many-stops _ _ _ _ (c .before .before .before .loop-test .taken) (c .before .before .face .ensures) (c .if1 .taken) ∙ c .before .before .before .before .loop .inv
 
-sub-left : tie.Need-sub-left Inv-loop μ-loop
-sub-left c = omega arith
+sub-faces-left : tie.Need-sub-faces-left Inv-loop μ-loop
+sub-faces-left c = omega arith
 
 loop-less : tie.Need-loop-less Inv-loop μ-loop
 loop-less c = omega arith
@@ -45,7 +45,7 @@ face-run-spec =
     loop-holds
     face-requires
     returns
-    sub-left
+    sub-faces-left
     loop-less
     loop-again
     returns-2)
