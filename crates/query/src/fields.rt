@@ -45,9 +45,10 @@ fn tested(job: &[u8], at: usize, size: usize, ok: bool, refusal: u8) -> At
         return At { refusal, at };
     }
     if ok {
+        let next = at + size;
         At {
             refusal: 0,
-            at: at + size,
+            at: next,
         }
     } else {
         At { refusal, at }

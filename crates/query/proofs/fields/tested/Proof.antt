@@ -17,8 +17,8 @@ returns : tie.Need-returns
 unfolding fieldEnd
 returns c = simp (lt-leb _ _ (ltb-true (length (c .before .before .before .args .job .now)) (c .before .before .before .args .at + c .before .before .before .args .size) (sym (c .before .past .ensures) ∙ c .if1 .taken)))
 
-add-t9 : tie.Need-add-t9
-add-t9 c = omega (arith, ltb-false (length (c .before .before .before .before .args .job .now)) (c .before .before .before .before .args .at + c .before .before .before .before .args .size) (sym (c .before .before .past .ensures) ∙ c .before .if1 .left))
+add-next : tie.Need-add-next
+add-next c = omega (arith, ltb-false (length (c .before .before .before .before .args .job .now)) (c .before .before .before .before .args .at + c .before .before .before .before .args .size) (sym (c .before .before .past .ensures) ∙ c .before .if1 .left))
 
 returns-2 : tie.Need-returns-2
 unfolding fieldEnd
@@ -29,4 +29,4 @@ unfolding fieldEnd
 returns-3 c = simp (le-leb _ _ (ltb-false (length (c .before .before .before .before .args .job .now)) (c .before .before .before .before .args .at + c .before .before .before .before .args .size) (sym (c .before .before .past .ensures) ∙ c .before .if1 .left)), c .if2 .left)
 
 pub tested-spec : {M : Type 1} → statement M
-tested-spec = tie.close (tie.spec past-requires returns add-t9 returns-2 returns-3)
+tested-spec = tie.close (tie.spec past-requires returns add-next returns-2 returns-3)
