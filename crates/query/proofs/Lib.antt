@@ -10,3 +10,4 @@ pub mod Exact
 pub mod ExactLists
 pub mod ExactEntries
 pub mod AcceptedJobs
+pub mod Examples
