@@ -97,12 +97,12 @@ module _ {A : Type 0} (r : Reader A) (e : A → List ℕ) (W : A → Type 0) (x 
 
 -- ---- a font file
 
-record Part (s : List ℕ) (p n : ℕ) (f : List ℕ) (q : ℕ) : Type 0 where
-  is : take n (drop p s) ≡ f
-  ends : q ≡ p + n
-  in-job : p + n ≤ length s
+pub record Part (s : List ℕ) (p n : ℕ) (f : List ℕ) (q : ℕ) : Type 0 where
+  pub is : take n (drop p s) ≡ f
+  pub ends : q ≡ p + n
+  pub in-job : p + n ≤ length s
 
-font-bytes-got : (place n : ℕ) (s : List ℕ) (p : ℕ) (f : List ℕ) (q : ℕ) → fontBytes place n s p ≡ got f q → Part s p n f q
+pub font-bytes-got : (place n : ℕ) (s : List ℕ) (p : ℕ) (f : List ℕ) (q : ℕ) → fontBytes place n s p ≡ got f q → Part s p n f q
 unfolding fontBytes
 font-bytes-got place n s p f q = go (leb (p + n) (length s)) refl
   where
@@ -110,12 +110,12 @@ font-bytes-got place n s p f q = go (leb (p + n) (length s)) refl
     go true t e = record { is = cc; ends = cc; in-job = leb-true (p + n) (length s) t }
     go false t e = absurd (let z : _≡_ {A = ℕ} 0 1 = cc in omega arith)
 
-record Taken (f a : List ℕ) (p q : ℕ) : Type 0 where
-  is : f ≡ a
-  ends : p ≡ q
-  taken : fromFontRef f .refusal ≡ 0
+pub record Taken (f a : List ℕ) (p q : ℕ) : Type 0 where
+  pub is : f ≡ a
+  pub ends : p ≡ q
+  pub taken : fromFontRef f .refusal ≡ 0
 
-font-taken-got : (place : ℕ) (f : List ℕ) (s : List ℕ) (p : ℕ) (a : List ℕ) (q : ℕ) → fontTaken place f s p ≡ got a q → Taken f a p q
+pub font-taken-got : (place : ℕ) (f : List ℕ) (s : List ℕ) (p : ℕ) (a : List ℕ) (q : ℕ) → fontTaken place f s p ≡ got a q → Taken f a p q
 unfolding fontTaken
 font-taken-got place f s p a q = go (eqb (fromFontRef f .refusal) 0) (fontRefusal (fromFontRef f .refusal)) refl
   where

@@ -10,4 +10,5 @@ pub mod Exact
 pub mod ExactLists
 pub mod ExactEntries
 pub mod AcceptedJobs
+pub mod Values
 pub mod Examples

@@ -1,5 +1,6 @@
 -- `query::entries::face_number_run` meets its contract. The invariant: what is left to read from here ends as the whole does.
 -- Assumes nothing.
+use Prim.Native.Nat.{_≤_, _<_}
 use mathlib.Core.Path.{_≡_, refl, _∙_}
 use native.Mathlib.Omega.{arith}
 use Rattle.query.specs.Reader.{ended, many}
@@ -22,7 +23,8 @@ face-number-requires : tie.Need-face-number-requires Inv-loop μ-loop
 face-number-requires c κs = search needs
 
 returns : tie.Need-returns Inv-loop μ-loop
-returns c = many-stops _ _ _ _ (c .before .before .before .loop-test .taken) (c .before .before .face-number .ensures) (c .if1 .taken) ∙ c .before .before .before .before .loop .inv
+returns c = let more : 0 < c .before .before .before .before .loop .left = omega arith in
+    many-stops _ _ _ _ more (c .before .before .face-number .ensures) (c .if1 .taken) ∙ c .before .before .before .before .loop .inv
 
 sub-left : tie.Need-sub-left Inv-loop μ-loop
 sub-left c = omega arith
@@ -31,10 +33,12 @@ loop-less : tie.Need-loop-less Inv-loop μ-loop
 loop-less c = omega arith
 
 loop-again : tie.Need-loop-again Inv-loop μ-loop
-loop-again c = many-goes _ _ _ _ (c .before .before .before .loop-test .taken) (c .before .before .face-number .ensures) (c .if1 .left) ∙ c .before .before .before .before .loop .inv
+loop-again c = let more : 0 < c .before .before .before .before .loop .left = omega arith in
+    many-goes _ _ _ _ more (c .before .before .face-number .ensures) (c .if1 .left) ∙ c .before .before .before .before .loop .inv
 
 returns-2 : tie.Need-returns-2 Inv-loop μ-loop
-returns-2 c = many-over _ _ _ _ (c .loop-test .left) ∙ c .before .loop .inv
+returns-2 c = let over : c .before .loop .left ≤ 0 = omega arith in
+    many-over _ _ _ _ over ∙ c .before .loop .inv
 
 pub face-number-run-spec : {M : Type 1} → statement M
 face-number-run-spec =
