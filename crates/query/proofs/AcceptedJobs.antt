@@ -41,12 +41,12 @@ exact-requests : Exact (counted 256 readRequest) (after16 layoutRequest) (λ xs.
 exact-requests = exact-counted readRequest layoutRequest RequestFits exact-request 256
 
 -- no byte is left
-record Over (j k : Job) (s : List ℕ) (p q : ℕ) : Type 0 where
-  is : j ≡ k
-  ends : p ≡ q
-  last : length s ≤ p
+pub record Over (j k : Job) (s : List ℕ) (p q : ℕ) : Type 0 where
+  pub is : j ≡ k
+  pub ends : p ≡ q
+  pub last : length s ≤ p
 
-at-end-got : (j k : Job) (s : List ℕ) (p q : ℕ) → atEnd j s p ≡ got k q → Over j k s p q
+pub at-end-got : (j k : Job) (s : List ℕ) (p q : ℕ) → atEnd j s p ≡ got k q → Over j k s p q
 unfolding atEnd
 at-end-got j k s p q = go (ltb p (length s)) refl
   where

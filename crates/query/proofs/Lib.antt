@@ -10,5 +10,6 @@ pub mod Exact
 pub mod ExactLists
 pub mod ExactEntries
 pub mod AcceptedJobs
+pub mod Numbered
 pub mod Values
 pub mod Examples
