@@ -1,18 +1,18 @@
 -- A byte string is accepted exactly when it is the layout of a job within the limits, and it is read as that job, to its end.
-use Prim.Native.Nat.{ℕ, _+_, _≤_, _<_}
+use Prim.Native.Nat.{ℕ, _≤_}
 use mathlib.Core.Path.{_≡_, refl, sym, ap, _∙_, subst}
 use mathlib.Core.Bool.{Bool, true, false, cond}
-use mathlib.Core.List.{List, [], _∷_, _++_, append-nil}
+use mathlib.Core.List.{List, _++_, append-nil}
 use mathlib.Core.Logic.{_↔_}
 use native.Mathlib.Omega.{arith}
-use lib.ListN.{length, getD, drop, drop-of-length-le}
+use lib.ListN.{length, drop-of-length-le}
 use lib.Seq.{drop-length}
 use lib.Dec.{leb, ltb}
 use borrow.Author.Tests.{le-leb, le-ltb, leb-true, ltb-false}
 use Rattle.query.specs.declared.job.Checked.{Checked}
-use Rattle.query.specs.Reader.{Refusal, overlong, bytesLeft, number, Got, refused, got, Reader, done, onward, _>>=_}
+use Rattle.query.specs.Reader.{overlong, bytesLeft, Got, refused, got}
 use Rattle.query.specs.Fields.{counted}
-use Rattle.query.specs.Entries.{Face, readFace, Override, readOverride, Family, readFamily, Request, readRequest}
+use Rattle.query.specs.Entries.{readFace, readOverride, readFamily, readRequest}
 use Rattle.query.specs.Job.{Job, atEnd, readSections, readJob, answer, checkJob}
 use Rattle.query.specs.Layout.{after16, layoutFace, layoutOverride, layoutFamily, layoutRequest, layout, Every, FaceFits, OverrideFits, FamilyFits, RequestFits, JobFits}
 use Rattle.query.proofs.Ends.{number-nonzero, then-got}

@@ -1,12 +1,10 @@
 -- How a job ends, and the check call's answer.
 use Prim.Native.Nat.{ℕ, _≤_, _<_}
 use mathlib.Core.Path.{_≡_, refl, sym, ap, _∙_}
-use mathlib.Core.Bool.{Bool}
 use mathlib.Core.List.{List}
 use lib.ListN.{length}
 use borrow.Author.Tests.{lt-ltb, le-ltb, le-leb, lt-leb}
 use Rattle.query.specs.declared.fields.At.{At}
-use Rattle.query.specs.declared.job.Checked.{Checked}
 use Rattle.query.specs.Reader.{number, Got, refused, got, ended}
 use Rattle.query.specs.Job.{Job, atEnd, readSections, readJob, answer, checkJob}
 use Rattle.query.proofs.Ends.{number-nonzero}

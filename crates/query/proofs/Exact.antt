@@ -1,28 +1,27 @@
 -- Readers that read exactly what a layout writes. Sound: what is read stands there as its layout, within the limits. Complete: what stands there
 -- as the layout of something within the limits is read as that.
-use Prim.Native.Nat.{ℕ, zero, suc, _+_, _*_, _-_, _/_, _%_, _^_, _≤_, _<_}
+use Prim.Native.Nat.{ℕ, _+_, _*_, _/_, _%_, _^_, _≤_, _<_}
 use mathlib.Core.Path.{_≡_, refl, sym, ap, _∙_}
-use mathlib.Core.Bool.{Bool, true, false, not, cond}
-use mathlib.Core.List.{List, [], _∷_, _++_}
+use mathlib.Core.Bool.{Bool, true, false, not}
+use mathlib.Core.List.{List, [], _∷_}
 use native.Mathlib.Omega.{arith}
-use lib.ListN.{length, getD, take, drop, length-append, length-take, length-drop, take-append-drop}
-use lib.Seq.{drop-drop, getD-drop, take-append-seam, length-take-le}
+use lib.ListN.{length, getD}
+use lib.Seq.{getD-drop}
 use lib.Dec.{T, leb, ltb, eqb}
 use lib.Ieee.{Float, nan, inf, fin, binary32, isNan, ofBits, toBits, fits}
 use lib.Ieee.Scale.{finite}
-use lib.Ieee.Bits.{ofBits-toBits, ofBits-fits, toBits-ofBits, toBits-lt}
-use borrow.Author.Tests.{le-leb, lt-leb, lt-ltb, eq-eqb, leb-true, ltb-true, eqb-true}
+use lib.Ieee.Bits.{ofBits-toBits, ofBits-fits, toBits-ofBits}
+use borrow.Author.Tests.{le-leb, lt-ltb, eq-eqb, leb-true, ltb-true, eqb-true}
 use Rattle.font.specs.Single.{acceptedRatio}
 use Rattle.font.specs.Tables.{u16At, u32At}
-use Rattle.font.specs.Font.{fromFontRef}
 use Rattle.font.proofs.Fields.{in16, out16, in32, out32}
-use Rattle.query.specs.Reader.{Refusal, pastEnd, overLimit, notHeld, noFace, unknown, badNumber, Got, refused, got, Reader, done, onward, _>>=_, field, tested, many}
-use Rattle.query.specs.Fields.{byte, half, word, single, ratio, value, count, counted, byteCounted, heldByte, faceNumber, mask, kind, spareByte, spareWord, fontRefusal, fontBytes, fontTaken, fontAt, fontFile}
-use Rattle.query.specs.Layout.{bytes8, bytes16, bytes32, bytesOf, each, after8, after16, layoutFont, Every, Fits8, Fits16, Fits32, IsNumber, IsRatio, IsValue}
-use Rattle.query.proofs.Ends.{Read, then-got}
+use Rattle.query.specs.Reader.{Refusal, overLimit, notHeld, noFace, unknown, badNumber, got, Reader, onward, field, tested}
+use Rattle.query.specs.Fields.{byte, half, word, single, ratio, value, count, heldByte, faceNumber, mask, kind, spareByte, spareWord}
+use Rattle.query.specs.Layout.{bytes8, bytes16, bytes32, bytesOf, Fits8, Fits16, Fits32, IsNumber, IsRatio, IsValue}
+use Rattle.query.proofs.Ends.{Read}
 use Rattle.query.proofs.Leaves.{byteAt, singleAt, byte-read, half-read, word-read, ratio-read, value-read, count-read, held-read, face-number-read, mask-read, kind-read, spare-byte-read, spare-word-read}
 use Rattle.query.proofs.Singles.{ratio-finite}
-use Rattle.query.proofs.Stands.{Stands, join, Split, split, none, inside, one}
+use Rattle.query.proofs.Stands.{Stands, join, split, inside, one}
 
 -- a list of bytes
 abbrev pub Bytes : List ℕ → Type 0

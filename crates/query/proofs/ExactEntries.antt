@@ -1,13 +1,12 @@
 -- The entries of a job are read exactly.
-use Prim.Native.Nat.{ℕ, zero, suc, _+_, _*_, _/_, _%_, _^_, _≤_, _<_}
-use mathlib.Core.Path.{_≡_, refl, sym, ap, _∙_, subst}
+use Prim.Native.Nat.{ℕ, zero, suc, _+_, _≤_, _<_}
+use mathlib.Core.Path.{_≡_, refl, sym, ap, _∙_}
 use mathlib.Core.Bool.{Bool, true, false, cond}
-use mathlib.Core.List.{List, [], _∷_, _++_}
+use mathlib.Core.List.{List}
 use native.Mathlib.Omega.{arith}
 use lib.ListN.{length}
-use lib.Dec.{leb, ltb, eqb}
+use lib.Dec.{eqb}
 use lib.Ieee.{Float}
-use borrow.Author.Tests.{eq-eqb, ne-eqb, eqb-true, eqb-false}
 use Rattle.font.specs.declared.attributes.Angle.{Angle}
 use Rattle.font.specs.declared.attributes.Angle.the-variants.{Unstated, Degrees}
 use Rattle.font.specs.declared.attributes.FontStyle.{FontStyle}
@@ -22,10 +21,10 @@ use Rattle.font.specs.declared.overrides.StyleOverride.the-variants as Style
 use Rattle.font.specs.declared.overrides.WeightOverride.the-variants as Weight
 use Rattle.font.specs.Attributes.{attributesOf}
 use Rattle.font.specs.Reading.{bit}
-use Rattle.query.specs.Reader.{Got, refused, got, Reader, done, onward, _>>=_}
+use Rattle.query.specs.Reader.{got, Reader, done, _>>=_}
 use Rattle.query.specs.Fields.{half, word, ratio, value, counted, byteCounted, heldByte, faceNumber, mask, kind, spareByte, spareWord, orSpare, fontFile}
-use Rattle.query.specs.Entries.{Face, readFace, styleOfKind, readAngle, readStyle, readWidth, readWeight, styleOrSpare, readGiven, Pair, readPair, Override, readOverride, Family, readFamily, Request, readRequested, readRequest}
-use Rattle.query.specs.Layout.{bytes8, bytes16, bytes32, bytesOf, after8, after16, layoutFont, layoutFace, kindOf, angleOf, layoutAngle, layoutStyle, givesWidth, givesStyle, givesWeight, maskOf, layoutWidth, layoutStyleGiven, layoutWeight, layoutGiven, layoutPair, layoutOverride, layoutFamily, layoutAttributes, layoutRequest, Every, Fits8, Fits16, Fits32, IsRatio, IsValue, FaceFits, AngleFits, StyleFits, WidthFits, StyleGivenFits, WeightFits, PairFits, OverrideFits, FamilyFits, RequestFits}
+use Rattle.query.specs.Entries.{readFace, styleOfKind, readAngle, readStyle, readWidth, readWeight, styleOrSpare, readGiven, readPair, readOverride, readFamily, readRequested, readRequest}
+use Rattle.query.specs.Layout.{bytes8, bytes16, bytes32, bytesOf, after8, layoutFont, layoutFace, kindOf, angleOf, layoutAngle, layoutStyle, givesWidth, givesStyle, givesWeight, maskOf, layoutWidth, layoutStyleGiven, layoutWeight, layoutGiven, layoutPair, layoutOverride, layoutFamily, layoutAttributes, layoutRequest, Every, Fits8, Fits16, IsRatio, IsValue, FaceFits, AngleFits, StyleFits, WidthFits, StyleGivenFits, WeightFits, PairFits, OverrideFits, FamilyFits, RequestFits}
 use Rattle.query.proofs.Ends.{then-got}
 use Rattle.query.proofs.Stands.{Stands, join, split, none}
 use Rattle.query.proofs.Exact.{Bytes, Stood, Exact, exact-half, exact-word, exact-ratio, exact-value, exact-held, exact-face-number, exact-mask, exact-kind, exact-spare-byte, exact-spare-word}

@@ -1,20 +1,20 @@
 -- Lists of entries, and font files, are read exactly.
-use Prim.Native.Nat.{ℕ, zero, suc, _+_, _-_, _^_, _≤_, _<_}
+use Prim.Native.Nat.{ℕ, zero, suc, _+_, _≤_}
 use mathlib.Core.Path.{_≡_, refl, sym, ap, _∙_, subst}
 use mathlib.Core.Bool.{Bool, true, false, cond}
-use mathlib.Core.List.{List, [], _∷_, _++_}
+use mathlib.Core.List.{List, [], _∷_}
 use native.Mathlib.Omega.{arith}
-use lib.ListN.{length, take, drop, length-append, length-take, length-drop, take-append-drop}
+use lib.ListN.{length, take, drop, length-append, length-drop, take-append-drop}
 use lib.Seq.{drop-drop, take-append-seam, length-take-le}
 use lib.Dec.{leb, eqb}
-use borrow.Author.Tests.{le-leb, eq-eqb, leb-true, eqb-true}
+use borrow.Author.Tests.{le-leb, leb-true, eqb-true}
 use Rattle.font.specs.Font.{fromFontRef}
 use Rattle.query.specs.Reader.{Refusal, pastEnd, Got, refused, got, Reader, done, onward, _>>=_, many}
 use Rattle.query.specs.Fields.{byte, word, count, counted, byteCounted, fontRefusal, fontBytes, fontTaken, fontAt, fontFile}
 use Rattle.query.specs.Layout.{bytes8, bytes16, bytes32, each, after8, after16, layoutFont, Every, Fits8, Fits32}
 use Rattle.query.proofs.Ends.{then-got}
 use Rattle.query.proofs.Stands.{Stands, join, split, none}
-use Rattle.query.proofs.Exact.{Bytes, Stood, Exact, There, there32, exact-byte, exact-word, exact-count}
+use Rattle.query.proofs.Exact.{Bytes, Stood, Exact, there32, exact-byte, exact-word, exact-count}
 
 -- one after another, where both are read
 pub then-is : {A B : Type 0} (r : Reader A) (k : A → Reader B) (s : List ℕ) (p : ℕ) (a : A) (q : ℕ) {g : Got B}

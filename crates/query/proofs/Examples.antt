@@ -5,15 +5,14 @@ use mathlib.Core.Bool.{Bool, true, _&&_}
 use mathlib.Core.List.{List, [], _∷_, _++_}
 use lib.ListN.{replicate}
 use lib.Dec.{eqb}
-use lib.Ieee.{ofFields, ofBits, ofInt, le, lt, eq, odd, round, units, size, span, climb}
+use lib.Ieee.{ofBits, ofInt, le, lt, eq}
 use Rattle.font.specs.Single.{single, acceptedRatio}
-use Rattle.font.specs.Reading.{bit}
 use Rattle.font.specs.Tables.{u16At, u32At, directoryFits}
 use Rattle.font.specs.Font.{fromFontRef, refusedFont}
 use Rattle.query.specs.Reader.{number, done, onward, _>>=_, field, tested, many}
-use Rattle.query.specs.Fields.{byte, half, word, ratio, value, count, counted, byteCounted, heldByte, faceNumber, mask, kind, spareByte, spareWord, orSpare, fontRefusal, fontBytes, fontTaken, fontAt, fontFile}
+use Rattle.query.specs.Fields.{byte, half, word, ratio, value, count, counted, byteCounted, heldByte, faceNumber, kind, spareWord, orSpare, fontRefusal, fontBytes, fontTaken, fontAt, fontFile}
 use Rattle.query.specs.Fields.{single as singleField}
-use Rattle.query.specs.Entries.{readFace, styleOfKind, readAngle, readStyle, readWidth, readWeight, styleOrSpare, readGiven, readPair, readOverride, readFamily, readRequested, readRequest}
+use Rattle.query.specs.Entries.{readFace, styleOfKind, readAngle, readStyle, readOverride, readFamily, readRequested, readRequest}
 use Rattle.query.specs.Job.{atEnd, readSections, readJob, answer, checkJob}
 
 pub record Case : Type 0 where

@@ -1,34 +1,13 @@
 -- Entries by their number: where each stands, and that it is what is read there.
 use Prim.Native.Nat.{ℕ, zero, suc, _+_, _*_, _≤_, _<_}
-use mathlib.Core.Path.{_≡_, refl, sym, ap, _∙_, subst}
-use mathlib.Core.Bool.{Bool, true, false, cond}
+use mathlib.Core.Path.{_≡_, refl, sym, ap, _∙_}
 use mathlib.Core.List.{List, [], _∷_}
 use native.Mathlib.Omega.{arith}
 use native.Mathlib.Nat.{mul-suc}
-use lib.ListN.{length, getD, take, drop}
-use lib.Dec.{leb, eqb}
-use lib.Ieee.{Float}
-use Rattle.font.specs.declared.attributes.Angle.{Angle}
-use Rattle.font.specs.declared.attributes.Angle.the-variants.{Unstated, Degrees}
-use Rattle.font.specs.declared.attributes.FontStyle.{FontStyle}
-use Rattle.font.specs.declared.overrides.WidthOverride.{WidthOverride}
-use Rattle.font.specs.declared.overrides.StyleOverride.{StyleOverride}
-use Rattle.font.specs.declared.overrides.WeightOverride.{WeightOverride}
-use Rattle.font.specs.declared.overrides.FontInfoOverride.{FontInfoOverride}
-use Rattle.font.specs.declared.overrides.WidthOverride.the-variants as Width
-use Rattle.font.specs.declared.overrides.StyleOverride.the-variants as Style
-use Rattle.font.specs.declared.overrides.WeightOverride.the-variants as Weight
-use Rattle.font.specs.Attributes.{attributesOf}
-use Rattle.font.specs.Reading.{bit}
-use Rattle.font.specs.Tables.{u16At, u32At}
-use Rattle.query.specs.Reader.{Got, overlong, refused, got, Reader, done, onward, _>>=_, many, ended, entryAt}
-use Rattle.query.specs.Fields.{byte, half, word, ratio, value, count, counted, byteCounted, heldByte, faceNumber, mask, kind, spareByte, spareWord, orSpare, fontBytes, fontTaken, fontAt, fontFile}
-use Rattle.query.specs.Entries.{Face, readFace, styleOfKind, readAngle, readStyle, readWidth, readWeight, styleOrSpare, readGiven, Pair, readPair, Override, readOverride, Family, readFamily, Request, readRequested, readRequest}
-use Rattle.query.specs.Job.{Job, readSections, readJob}
-use Rattle.query.proofs.Ends.{Read, then-got, many-length}
-use Rattle.query.proofs.Leaves.{counted-length, byteAt, singleAt, byte-read, half-read, word-read, ratio-read, value-read, count-read, held-read, face-number-read, mask-read, kind-read, spare-byte-read, spare-word-read}
-use Rattle.query.proofs.Fonts.{fontPart}
-use Rattle.query.proofs.ExactLists.{done-got, Part, font-bytes-got, Taken, font-taken-got}
+use lib.ListN.{getD}
+use Rattle.query.specs.Reader.{Got, got, Reader, many, ended, entryAt}
+use Rattle.query.proofs.Ends.{then-got}
+use Rattle.query.proofs.ExactLists.{done-got}
 
 -- the entries after the first one are those that start where it ends
 entry-shift : {A : Type 0} (r : Reader A) (s : List ℕ) (p i : ℕ) → entryAt r s p (suc i) ≡ entryAt r s (ended (r s p) .at) i

@@ -1,17 +1,13 @@
 -- A reading that starts in the job, or just past it, ends so: the position that the check call gives is at most the job's length.
 use Prim.Native.Nat.{ℕ, zero, suc, _+_, _≤_}
-use mathlib.Core.Path.{_≡_, refl, sym, ap, _∙_}
+use mathlib.Core.Path.{_≡_, refl}
 use mathlib.Core.Bool.{Bool, true, false, cond}
 use mathlib.Core.List.{List, [], _∷_}
 use native.Mathlib.Omega.{arith}
 use lib.ListN.{length, take, drop}
 use lib.Dec.{leb, ltb, eqb}
 use borrow.Author.Tests.{leb-true}
-use Rattle.font.specs.Reading.{bit}
 use Rattle.font.specs.Font.{fromFontRef}
-use Rattle.font.specs.declared.overrides.WidthOverride.the-variants as Width
-use Rattle.font.specs.declared.overrides.WeightOverride.the-variants as Weight
-use Rattle.font.specs.declared.attributes.Angle.the-variants.{Unstated}
 use Rattle.query.specs.Reader.{Refusal, overlong, pastEnd, bytesLeft, Got, refused, got, Reader, done, onward, _>>=_, field, tested, many}
 use Rattle.query.specs.Fields.{byte, half, word, single, ratio, value, count, counted, byteCounted, heldByte, faceNumber, mask, kind, spareByte, spareWord, orSpare, fontRefusal, fontBytes, fontTaken, fontAt, fontFile}
 use Rattle.query.specs.Entries.{readFace, readAngle, readStyle, readWidth, readWeight, styleOrSpare, readGiven, readPair, readOverride, readFamily, readRequested, readRequest}

@@ -1,10 +1,10 @@
 -- Laws of a single's bits: which patterns are finite, and that no other is a ratio.
 use Prim.Native.Nat.{ℕ, zero, suc, _+_, _/_, _%_, _<_}
-use mathlib.Core.Path.{_≡_, refl, sym, ap, _∙_}
+use mathlib.Core.Path.{_≡_, refl, sym, _∙_}
 use mathlib.Core.Bool.{Bool, true, false, not, cond}
 use native.Mathlib.Omega.{arith}
-use lib.Dec.{T, ltb, eqb}
-use lib.Ieee.{Float, nan, inf, fin, binary32, odd, isNan, ofFields, ofBits, nanBits, low, hid, le, lt, eq}
+use lib.Dec.{ltb, eqb}
+use lib.Ieee.{Float, nan, inf, fin, binary32, odd, isNan, ofFields, ofBits, nanBits, hid, le, lt, eq}
 use lib.Ieee.Scale.{finite}
 use lib.Ieee.Bits.{nanBits-is}
 use borrow.Author.Tests.{ltb-true, ltb-false, eq-eqb, ne-eqb}

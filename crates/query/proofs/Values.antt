@@ -1,19 +1,15 @@
 -- Where the values of an accepted job stand: each section, and each field of an entry, by its position.
-use Prim.Native.Nat.{ℕ, zero, suc, _+_, _*_, _≤_, _<_}
+use Prim.Native.Nat.{ℕ, _+_, _≤_}
 use mathlib.Core.Path.{_≡_, refl, sym, ap, _∙_, subst}
 use mathlib.Core.Bool.{Bool, true, false, cond}
-use mathlib.Core.List.{List, [], _∷_}
+use mathlib.Core.List.{List}
 use native.Mathlib.Omega.{arith}
-use native.Mathlib.Nat.{mul-suc}
-use lib.ListN.{length, getD, take, drop}
+use lib.ListN.{length, take, drop}
 use lib.Dec.{leb, eqb}
 use lib.Ieee.{Float}
-use Rattle.font.specs.declared.attributes.Angle.{Angle}
 use Rattle.font.specs.declared.attributes.Angle.the-variants.{Unstated, Degrees}
 use Rattle.font.specs.declared.attributes.FontStyle.{FontStyle}
-use Rattle.font.specs.declared.overrides.WidthOverride.{WidthOverride}
 use Rattle.font.specs.declared.overrides.StyleOverride.{StyleOverride}
-use Rattle.font.specs.declared.overrides.WeightOverride.{WeightOverride}
 use Rattle.font.specs.declared.overrides.FontInfoOverride.{FontInfoOverride}
 use Rattle.font.specs.declared.overrides.WidthOverride.the-variants as Width
 use Rattle.font.specs.declared.overrides.StyleOverride.the-variants as Style
@@ -21,14 +17,14 @@ use Rattle.font.specs.declared.overrides.WeightOverride.the-variants as Weight
 use Rattle.font.specs.Attributes.{attributesOf}
 use Rattle.font.specs.Reading.{bit}
 use Rattle.font.specs.Tables.{u16At, u32At}
-use Rattle.query.specs.Reader.{Got, overlong, refused, got, Reader, done, onward, _>>=_, many, ended, entryAt}
-use Rattle.query.specs.Fields.{byte, half, word, ratio, value, count, counted, byteCounted, heldByte, faceNumber, mask, kind, spareByte, spareWord, orSpare, fontBytes, fontTaken, fontAt, fontFile}
+use Rattle.query.specs.Reader.{overlong, refused, got, Reader, done, _>>=_, many}
+use Rattle.query.specs.Fields.{byte, half, word, ratio, value, count, counted, byteCounted, heldByte, faceNumber, mask, kind, spareByte, spareWord, orSpare, fontBytes, fontAt, fontFile}
 use Rattle.query.specs.Entries.{Face, readFace, styleOfKind, readAngle, readStyle, readWidth, readWeight, styleOrSpare, readGiven, Pair, readPair, Override, readOverride, Family, readFamily, Request, readRequested, readRequest}
 use Rattle.query.specs.Job.{Job, readSections, readJob}
-use Rattle.query.proofs.Ends.{Read, then-got, many-length}
+use Rattle.query.proofs.Ends.{then-got}
 use Rattle.query.proofs.Leaves.{counted-length, byteAt, singleAt, byte-read, half-read, word-read, ratio-read, value-read, count-read, held-read, face-number-read, mask-read, kind-read, spare-byte-read, spare-word-read}
 use Rattle.query.proofs.Fonts.{fontPart}
-use Rattle.query.proofs.ExactLists.{done-got, Part, font-bytes-got, Taken, font-taken-got}
+use Rattle.query.proofs.ExactLists.{done-got, font-bytes-got, font-taken-got}
 use Rattle.query.proofs.AcceptedJobs.{at-end-got}
 
 -- ---- faces
@@ -218,7 +214,7 @@ list-from : {A : Type 0} (r : Reader A) (s : List ℕ) (i k m : ℕ) (xs ys : Li
     → many (byteAt s i) r s (i + 1) ≡ got xs q → many (byteAt s k) r s m ≡ got ys t
 list-from r s i k m xs ys q t a n b c h =
     ((sym (ap (λ (x : ℕ). many (byteAt s x) r s m) a) ∙ sym (ap (λ (x : ℕ). many (byteAt s i) r s x) n)) ∙ h)
-        ∙ (ap (λ x. got x q) b ∙ ap (λ (x : ℕ). got ys x) c)
+    ∙ (ap (λ x. got x q) b ∙ ap (λ (x : ℕ). got ys x) c)
 
 pub override-values : (faces : ℕ) (s : List ℕ) (p : ℕ) (o : Override) (q : ℕ) → readOverride faces s p ≡ got o q → OverrideAt s p o q
 unfolding readOverride
@@ -308,16 +304,18 @@ request-values s p a q h =
     let at1 : t .1 ≡ p + 2 = f .next in
     let at2 : t .1 + 4 ≡ p + 6 = omega arith in
     let at3 : t .1 + 9 ≡ p + 11 = omega arith in
-    let at4 : u .1 ≡ p + 15 = omega (arith, g .next) in
-    (x .1, record {
-      most = ap (λ (r : Request). r .most) (sym (d .0)) ∙ f .value;
-      attributes = (ap (λ (r : Request). r .attributes) (sym (d .0)) ∙ g .value)
-          ∙ three s (t .1) (p + 2) (t .1 + 4) (p + 6) (t .1 + 9) (p + 11) at1 at2 at3;
-      families = list-from half s (u .1) (p + 15) (p + 16) (x .0) (a .families) (x .1) (x .1) at4 (omega arith) (ap (λ (r : Request). r .families) (d .0)) refl
-          (byte-counted-values half s (u .1) (x .0) (x .1) (x .2));
-      fallbacks = list-from half s (x .1) (x .1) (x .1 + 1) (y .0) (a .fallbacks) (y .1) q refl refl (ap (λ (r : Request). r .fallbacks) (d .0)) (d .1)
-          (byte-counted-values half s (x .1) (y .0) (y .1) (y .2));
-    })
+    let at4 : u .1 ≡ p + 15 = omega (arith, g .next) in (
+      x .1,
+      record {
+        most = ap (λ (r : Request). r .most) (sym (d .0)) ∙ f .value;
+        attributes = (ap (λ (r : Request). r .attributes) (sym (d .0)) ∙ g .value)
+            ∙ three s (t .1) (p + 2) (t .1 + 4) (p + 6) (t .1 + 9) (p + 11) at1 at2 at3;
+        families = list-from half s (u .1) (p + 15) (p + 16) (x .0) (a .families) (x .1) (x .1) at4 (omega arith) (ap (λ (r : Request). r .families) (d .0)) refl
+            (byte-counted-values half s (u .1) (x .0) (x .1) (x .2));
+        fallbacks = list-from half s (x .1) (x .1) (x .1 + 1) (y .0) (a .fallbacks) (y .1) q refl refl (ap (λ (r : Request). r .fallbacks) (d .0)) (d .1)
+            (byte-counted-values half s (x .1) (y .0) (y .1) (y .2));
+      },
+    )
   where
     three : (s : List ℕ) (a b c d e f : ℕ) → a ≡ b → c ≡ d → e ≡ f
         → attributesOf (singleAt s a) (styleAt s c) (singleAt s e) ≡ attributesOf (singleAt s b) (styleAt s d) (singleAt s f)
@@ -344,14 +342,18 @@ sections-values s j q h =
     let v = then-got (counted 64 (readFamily (length (t .0)))) _ s (u .1) j q (u .3) in
     let x = then-got (counted 256 readRequest) _ s (v .1) j q (v .3) in
     let d = at-end-got (record { faces = t .0; overrides = u .0; families = v .0; requests = x .0 }) j s (x .1) q (x .3) in
-    let two : (a : ℕ) × (b : ℕ) × (c : ℕ) × JobAt s (record { faces = t .0; overrides = u .0; families = v .0; requests = x .0 }) a b c (x .1) =
-        (t .1, u .1, v .1, record {
-          count = counted-length 256 readFace s 0 (t .0) (t .1) (t .2);
-          faces = counted-values 256 readFace s 0 (t .0) (t .1) (t .2);
-          overrides = counted-values 256 (readOverride (length (t .0))) s (t .1) (u .0) (u .1) (u .2);
-          families = counted-values 64 (readFamily (length (t .0))) s (u .1) (v .0) (v .1) (v .2);
-          requests = counted-values 256 readRequest s (v .1) (x .0) (x .1) (x .2);
-        }) in
+    let two : (a : ℕ) × (b : ℕ) × (c : ℕ) × JobAt s (record { faces = t .0; overrides = u .0; families = v .0; requests = x .0 }) a b c (x .1) = (
+      t .1,
+      u .1,
+      v .1,
+      record {
+        count = counted-length 256 readFace s 0 (t .0) (t .1) (t .2);
+        faces = counted-values 256 readFace s 0 (t .0) (t .1) (t .2);
+        overrides = counted-values 256 (readOverride (length (t .0))) s (t .1) (u .0) (u .1) (u .2);
+        families = counted-values 64 (readFamily (length (t .0))) s (u .1) (v .0) (v .1) (v .2);
+        requests = counted-values 256 readRequest s (v .1) (x .0) (x .1) (x .2);
+      },
+    ) in
     subst (λ i. (a : ℕ) × (b : ℕ) × (c : ℕ) × JobAt s i a b c q) (d .is)
     (subst (λ n. (a : ℕ) × (b : ℕ) × (c : ℕ) × JobAt s (record { faces = t .0; overrides = u .0; families = v .0; requests = x .0 }) a b c n) (d .ends) two)
 

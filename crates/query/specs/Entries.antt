@@ -19,7 +19,7 @@ use Rattle.font.specs.declared.overrides.WeightOverride.the-variants as Weight
 use Rattle.font.specs.Attributes.{attributesOf}
 use Rattle.font.specs.Reading.{bit}
 use Rattle.query.specs.Reader.{Reader, done, _>>=_}
-use Rattle.query.specs.Fields.{byte, half, word, ratio, value, counted, byteCounted, heldByte, faceNumber, mask, kind, spareByte, spareWord, orSpare, fontFile}
+use Rattle.query.specs.Fields.{half, word, ratio, value, counted, byteCounted, heldByte, faceNumber, mask, kind, spareByte, spareWord, orSpare, fontFile}
 
 -- "held byte 0 or 1, 32-bit length, font file"
 pub record Face : Type 0 where

@@ -10,7 +10,7 @@ use Rattle.font.specs.Single.{acceptedRatio}
 use Rattle.font.specs.Tables.{u16At, u32At}
 use Rattle.font.specs.Font.{fromFontRef}
 use Rattle.query.specs.declared.fields.At.{At}
-use Rattle.query.specs.Reader.{Refusal, pastEnd, overLimit, notHeld, badDirectory, noCharmap, manyAxes, noFace, unknown, badNumber, Reader, refused, got, done, _>>=_, field, tested, many}
+use Rattle.query.specs.Reader.{Refusal, pastEnd, overLimit, notHeld, badDirectory, noCharmap, manyAxes, noFace, unknown, badNumber, Reader, refused, got, done, field, tested, many, _>>=_}
 
 -- fields of 1, 2 and 4 bytes
 unfoldable pub byte : Reader ℕ

@@ -1,11 +1,11 @@
 -- Section 6: the job, and the check call's answer.
 use Prim.Native.Nat.{ℕ}
-use mathlib.Core.Bool.{Bool, cond}
+use mathlib.Core.Bool.{cond}
 use mathlib.Core.List.{List}
 use lib.ListN.{length}
 use lib.Dec.{leb, ltb}
 use Rattle.query.specs.declared.job.Checked.{Checked}
-use Rattle.query.specs.Reader.{overlong, bytesLeft, number, Got, refused, got, Reader, done, _>>=_}
+use Rattle.query.specs.Reader.{overlong, bytesLeft, number, Got, refused, got, Reader, _>>=_}
 use Rattle.query.specs.Fields.{counted}
 use Rattle.query.specs.Entries.{Face, Override, Family, Request, readFace, readOverride, readFamily, readRequest}
 

@@ -5,7 +5,6 @@ use Rattle.query.proofs.Ends.{stops, goes, ends}
 use borrow.Author.Needs.{needs}
 use Rattle.query.proofs.entries.request.Statement.{statement}
 use Rattle.query.proofs.entries.request.Tie as tie
-use Rattle.query.proofs.entries.requested.Reads as requested-reads
 
 half-requires : tie.Need-half-requires
 half-requires c κs = search needs

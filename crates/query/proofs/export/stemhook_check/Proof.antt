@@ -1,11 +1,8 @@
 -- `query::export::stemhook_check` meets its contract: a position is at most the job's length, so that the number fits.
 -- Assumes nothing.
-use mathlib.Core.Path.{sym, ap}
-use Prim.Native.Nat.{_≤_}
-use lib.ListN.{length}
+use mathlib.Core.Path.{ap}
 use native.Mathlib.Omega.{arith}
 use Rattle.query.specs.declared.job.Checked.{Checked}
-use Rattle.query.specs.Job.{checkJob}
 use Rattle.query.proofs.Positions.{position-in-job}
 use borrow.Author.Needs.{needs}
 use Rattle.query.proofs.export.stemhook_check.Statement.{statement}

@@ -7,7 +7,6 @@ use Rattle.query.proofs.Ends.{tested-ends}
 use borrow.Author.Needs.{needs}
 use Rattle.query.proofs.fields.ratio.Statement.{statement}
 use Rattle.query.proofs.fields.ratio.Tie as tie
-use Rattle.query.proofs.fields.ratio_bits.Reads as ratio-bits-reads
 
 u32-at-requires : tie.Need-u32-at-requires
 u32-at-requires c κs = search needs
