@@ -10,7 +10,7 @@ use lib.Seq.{drop-length}
 use lib.Dec.{leb, ltb}
 use borrow.Author.Tests.{le-leb, le-ltb, leb-true, ltb-false}
 use Rattle.query.specs.declared.job.Checked.{Checked}
-use Rattle.query.specs.Reader.{overlong, bytesLeft, Got, refused, got}
+use Rattle.query.specs.Reader.{Refusal, overlong, pastEnd, overLimit, notHeld, badDirectory, noCharmap, manyAxes, noFace, unknown, badNumber, bytesLeft, number, Got, refused, got}
 use Rattle.query.specs.Fields.{counted}
 use Rattle.query.specs.Entries.{readFace, readOverride, readFamily, readRequest}
 use Rattle.query.specs.Job.{Job, atEnd, readSections, readJob, answer, checkJob}
@@ -161,6 +161,30 @@ accepted-exactly s B = (
       (a .0, l .bytes, l .fits)),
   (λ h. ap checkJob (h .1) ∙ ap answer (layout-is-accepted (h .0) (h .2))),
 )
+
+-- the table's rows for a job are 17 to 27
+number-row : (w : Refusal) → (17 ≤ number w) × (number w ≤ 27)
+unfolding number
+number-row overlong = (omega arith, omega arith)
+number-row pastEnd = (omega arith, omega arith)
+number-row overLimit = (omega arith, omega arith)
+number-row notHeld = (omega arith, omega arith)
+number-row badDirectory = (omega arith, omega arith)
+number-row noCharmap = (omega arith, omega arith)
+number-row manyAxes = (omega arith, omega arith)
+number-row noFace = (omega arith, omega arith)
+number-row unknown = (omega arith, omega arith)
+number-row badNumber = (omega arith, omega arith)
+number-row bytesLeft = (omega arith, omega arith)
+
+-- every other byte string is refused by one of these rows
+pub every-other-refused : (s : List ℕ) → Bytes s → (((j : Job) × (s ≡ layout j) × JobFits j) → ⊥) → (17 ≤ checkJob s .refusal) × (checkJob s .refusal ≤ 27)
+unfolding checkJob answer
+every-other-refused s B h = go (readJob s) refl
+  where
+    go : (g : Got Job) → readJob s ≡ g → (17 ≤ answer g .refusal) × (answer g .refusal ≤ 27)
+    go (refused w p) e = number-row w
+    go (got j q) e = let l = accepted-is-a-layout s B j q e in absurd (h (j, l .bytes, l .fits))
 
 -- no two jobs within the limits have one layout
 pub one-job : (i j : Job) → JobFits i → JobFits j → layout i ≡ layout j → i ≡ j

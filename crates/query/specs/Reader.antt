@@ -7,6 +7,7 @@ use lib.ListN.{length}
 use lib.Dec.{leb}
 use Rattle.query.specs.declared.fields.At.{At}
 
+infixl 20 _>>=_
 -- the rows of the table that a job alone can meet
 pub data Refusal : Type 0 where
   overlong pastEnd overLimit notHeld badDirectory noCharmap manyAxes noFace unknown badNumber bytesLeft : Refusal
@@ -41,7 +42,6 @@ unfoldable pub onward : {A B : Type 0} → Got A → (A → ℕ → Got B) → G
 onward (refused why p) k = refused why p
 onward (got a p) k = k a p
 
-infixl 20 _>>=_
 -- one field or entry after another
 unfoldable pub _>>=_ : {A B : Type 0} → Reader A → (A → Reader B) → Reader B
 _>>=_ r k s p = onward (r s p) (λ a q. k a s q)

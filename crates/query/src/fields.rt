@@ -1,9 +1,8 @@
 // The fields of a job. Each function takes the job and a position, and answers the refusal or the next position.
 ghost use mathlib.Core.Path.{_≡_};
 ghost use Prim.Native.Nat.{_+_};
-ghost use mathlib.Core.Bool.{not};
 ghost use lib.ListN.{length, getD};
-ghost use lib.Dec.{leb, ltb};
+ghost use lib.Dec.{ltb};
 ghost use lib.Ieee.{binary32, ofBits};
 ghost use lib.Ieee.Scale.{finite};
 ghost use Rattle.font.specs.Single.{acceptedRatio};
