@@ -1,0 +1,15 @@
+-- Laws that the proofs of `query` share, and the theorems on the job's layout.
+pub mod Ends
+pub mod Singles
+pub mod Leaves
+pub mod Fonts
+pub mod Checks
+pub mod Positions
+pub mod Stands
+pub mod Exact
+pub mod ExactLists
+pub mod ExactEntries
+pub mod AcceptedJobs
+pub mod Numbered
+pub mod Values
+pub mod Examples
