@@ -22,6 +22,7 @@ pub mod Least
 pub mod Tabulated
 pub mod Lookup
 pub mod Records
+pub mod Inside
 pub mod Classes
 -- Section 3: overrides.
 pub mod Refusals
