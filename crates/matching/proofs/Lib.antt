@@ -1,0 +1,9 @@
+-- Laws that several proofs cite.
+pub mod Numbers
+pub mod Below
+pub mod Ranks
+pub mod Standings
+pub mod Before
+pub mod Choice
+pub mod Scans
+pub mod Demand
