@@ -7,3 +7,5 @@ pub mod Before
 pub mod Choice
 pub mod Scans
 pub mod Demand
+pub mod Fill
+pub mod Gathered

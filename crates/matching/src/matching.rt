@@ -38,8 +38,9 @@ fn place_for(fonts: [FontInfo; 64], count: usize, request: Request) -> usize
     while i < count {
         let font = fonts[i];
         let attributes = font.attributes;
+        let style = attributes.style;
         percents[i] = single::whole_percent(attributes.width.ratio);
-        styles[i] = style_number(attributes.style);
+        styles[i] = style_number(style);
         weights[i] = single::order_number(attributes.weight.value);
         slants[i] = axes::has_axis(font, axes::SLNT);
         i += 1;
