@@ -1,7 +1,6 @@
 use Prim.Native.Nat.{ℕ, _-_, _≤_}
 use mathlib.Core.Path.{_≡_, _∙_, ap, subst}
 use mathlib.Core.Bool.{false}
-use Rattle.font.specs.Attributes.{attributesOf}
 use Rattle.matching.specs.Order.{Family, choice}
 use native.Mathlib.Omega.{arith}
 use lib.ListN.{getD}
@@ -96,7 +95,7 @@ loop-less c = omega arith
 
 -- src/matching.rt:38:5
 loop-again : tie.Need-loop-again Inv-loop μ-loop
-unfolding faceOf slnt attributesOf
+unfolding faceOf slnt
 loop-again c =
     ( omega arith
     , filled-more 0 (λ j. faceOf (getD (c .before .before .before .before .before .before .before .before .args .t1) j noFace) .percent) (c .before .before .before .before .before .before .before .loop .percents) (c .before .before .before .before .before .before .before .loop .i) (c .before .before .before .whole-percent .result) (c .before .before .before .before .before .before .before .loop .inv .1) (omega arith) (c .before .before .before .whole-percent .ensures)

@@ -1,0 +1,5 @@
+-- Laws that several proofs cite.
+pub mod Picked
+pub mod Places
+pub mod Defaults
+pub mod Gathered

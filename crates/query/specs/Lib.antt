@@ -1,0 +1,2 @@
+-- What the contracts of `query` cite. Each definition is written from the scope's section 6.
+pub mod Offers

@@ -1,0 +1,2 @@
+// Jobs and offers.
+pub mod offers;
