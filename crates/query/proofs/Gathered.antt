@@ -11,7 +11,7 @@ use Rattle.font.proofs.Tabulated.{length-is, element}
 use Rattle.matching.specs.Order.{Face, faceOfLists, familyOfLists}
 use Rattle.matching.specs.Matching.{blank}
 use Rattle.matching.proofs.Fill.{Filled}
-use Rattle.query.specs.Offers.{Group, Faces, groupOf, groupOfLists, numbersAt}
+use Rattle.query.specs.Offers.{Group, Faces, groupOf, groupOfLists, numbersAt, membersAt, listAt}
 
 -- the numbers that stand at a position
 pub numbers-length : (job : List ℕ) (at n : ℕ) → length (numbersAt job at n) ≡ n
@@ -21,6 +21,18 @@ numbers-length job at n = length-is (λ i. u16At job (at + 2 * i)) n
 pub number-at : (job : List ℕ) (at n i : ℕ) → i < n → getD (numbersAt job at n) i 0 ≡ u16At job (at + 2 * i)
 unfolding numbersAt
 number-at job at n i l = element (λ i. u16At job (at + 2 * i)) n i 0 l
+
+pub members-same : (job : List ℕ) (a b n : ℕ) → a ≡ b → n ≡ u16At job a → numbersAt job (a + 2) n ≡ membersAt job b
+unfolding membersAt
+members-same job a b n e h = rw (h, e) refl
+
+pub list-length : (job : List ℕ) (at : ℕ) → length (listAt job at) ≡ getD job at 0
+unfolding listAt
+list-length job at = numbers-length job (at + 1) (getD job at 0)
+
+pub list-number : (job : List ℕ) (at k : ℕ) → k < getD job at 0 → getD (listAt job at) k 0 ≡ u16At job (at + 1 + 2 * k)
+unfolding listAt
+list-number job at k l = number-at job (at + 1) (getD job at 0) k l
 
 face-same : (b : Bool) (x : Face) (p s w : ℕ) (l : Bool)
   → p ≡ cond b (x .percent) 0 → s ≡ cond b (x .style) 0 → w ≡ cond b (x .weight) 0 → l ≡ cond b (x .slant) false

@@ -3,3 +3,4 @@ pub mod Picked
 pub mod Places
 pub mod Defaults
 pub mod Gathered
+pub mod Turns

@@ -3,10 +3,10 @@ ghost use mathlib.Core.Path.{_≡_};
 ghost use mathlib.Core.Bool.{false, _&&_};
 ghost use Prim.Native.Nat.{ℕ, _+_, _*_, _^_, _≤_, _<_};
 ghost use lib.Dec.{ltb};
-ghost use lib.ListN.{getD};
+ghost use lib.ListN.{length, getD};
 ghost use Rattle.font.specs.Tables.{u16At};
 ghost use Rattle.matching.specs.Order.{familyOfLists};
-ghost use Rattle.query.specs.Offers.{pick, places, equalFaces, defaultRequest, defaultPlace, defaultOffers, familyOffers, groupOfLists, facesOfLists, groupOf, numbersAt};
+ghost use Rattle.query.specs.Offers.{pick, places, equalFaces, defaultRequest, defaultPlace, defaultOffers, familyOffers, groupOfLists, facesOfLists, groupOf, numbersAt, Small, familiesAt, numberOffers, inTurn, listAt, fallbacksAt, offers, offerAt};
 use font::tables;
 use matching::order::Request;
 use matching::stages;
@@ -149,4 +149,66 @@ fn members_offer(job: &[u8], at: usize, count: usize, percents: &[u32; 256], sty
         i += 1;
     }
     family_offer(&percent, &style, &weight, &ratio, &slant, &is_held, count, request, n)
+}
+
+// A 32-bit number, which its own type bounds.
+fn wide(x: u32) -> usize
+    ensures { λ r. ⌜ (r ≡ x) × (x < 2 ^ 32) ⌝ }
+{
+    x as usize
+}
+
+// The n-th offer of the family of a number. An unknown number has none.
+fn number_offer(job: &[u8], family_at: &[u32; 64], families: usize, percents: &[u32; 256], styles: &[u32; 256], weights: &[u32; 256], ratios: &[u32; 256], slants: &[bool; 256], held: &[bool; 256], request: Request, family: u16, n: usize) -> FamilyOffer
+    requires { ⌜ Small (now job) (now «family_at») families ⌝ }
+    ensures { λ r. ⌜ r ≡ pick FamilyOffer.Place FamilyOffer.Left (numberOffers (facesOfLists (now (percents .entry)) (now (styles .entry)) (now (weights .entry)) (now (ratios .entry)) (now (slants .entry)) (now (held .entry))) (familiesAt (now (job .entry)) (now («family_at» .entry)) families) request family) n ⌝ }
+{
+    let number = family as usize;
+    if families <= number {
+        return FamilyOffer::Left(n);
+    }
+    let at = wide(family_at[number]);
+    let count = tables::u16_at(job, at) as usize;
+    members_offer(job, at + 2, count, percents, styles, weights, ratios, slants, held, request, n)
+}
+
+// The n-th offer of a list of family numbers, which begins with a byte count.
+fn list_offer(job: &[u8], at: usize, family_at: &[u32; 64], families: usize, percents: &[u32; 256], styles: &[u32; 256], weights: &[u32; 256], ratios: &[u32; 256], slants: &[bool; 256], held: &[bool; 256], request: Request, n: usize) -> ListOffer
+    requires { ⌜ (at < length (now job)) × Small (now job) (now «family_at») families ⌝ }
+    ensures { λ r. ⌜ r ≡ pick ListOffer.At ListOffer.Left (inTurn (facesOfLists (now (percents .entry)) (now (styles .entry)) (now (weights .entry)) (now (ratios .entry)) (now (slants .entry)) (now (held .entry))) (familiesAt (now (job .entry)) (now («family_at» .entry)) families) request (listAt (now (job .entry)) at)) n ⌝ }
+{
+    let count = job[at] as usize;
+    let mut left = n;
+    let mut k: usize = 0;
+    while k < count {
+        let family = tables::u16_at(job, at + 1 + 2 * k);
+        match number_offer(job, family_at, families, percents, styles, weights, ratios, slants, held, request, family, left) {
+            FamilyOffer::Place(place) => {
+                return ListOffer::At(Offer { family, place });
+            }
+            FamilyOffer::Left(past) => {
+                left = past;
+            }
+        }
+        k += 1;
+    }
+    ListOffer::Left(left)
+}
+
+// The n-th offer of a request whose two lists of family numbers begin at a position of the job.
+pub fn request_offer(job: &[u8], at: usize, most: usize, family_at: &[u32; 64], families: usize, percents: &[u32; 256], styles: &[u32; 256], weights: &[u32; 256], ratios: &[u32; 256], slants: &[bool; 256], held: &[bool; 256], request: Request, n: usize) -> Offered
+    requires { ⌜ (at < length (now job)) × (fallbacksAt (now job) at < length (now job)) × Small (now job) (now «family_at») families ⌝ }
+    ensures { λ r. ⌜ r ≡ offerAt (offers (facesOfLists (now (percents .entry)) (now (styles .entry)) (now (weights .entry)) (now (ratios .entry)) (now (slants .entry)) (now (held .entry))) (familiesAt (now (job .entry)) (now («family_at» .entry)) families) request most (listAt (now (job .entry)) at) (listAt (now (job .entry)) (fallbacksAt (now (job .entry)) at))) n ⌝ }
+{
+    if most <= n {
+        return Offered::Past;
+    }
+    let fallbacks = at + 1 + 2 * (job[at] as usize);
+    match list_offer(job, at, family_at, families, percents, styles, weights, ratios, slants, held, request, n) {
+        ListOffer::At(offer) => Offered::At(offer),
+        ListOffer::Left(left) => match list_offer(job, fallbacks, family_at, families, percents, styles, weights, ratios, slants, held, request, left) {
+            ListOffer::At(offer) => Offered::At(offer),
+            ListOffer::Left(_) => Offered::Past,
+        },
+    }
 }
