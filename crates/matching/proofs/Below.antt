@@ -68,6 +68,10 @@ module _ (p : ℕ → Bool) where
   unfolding some
   some-more n e f = rw (add-one, e, f)
 
+  pub some-next : (n : ℕ) → some p (n + 1) ≡ some p n || p n
+  unfolding some
+  some-next n = rw add-one
+
   pub some-less : (n : ℕ) → ((i : ℕ) → i < n → p i ≡ false) → some p n ≡ false
   unfolding some
   some-less zero h = refl

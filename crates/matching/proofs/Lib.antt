@@ -9,3 +9,5 @@ pub mod Scans
 pub mod Demand
 pub mod Fill
 pub mod Gathered
+pub mod Matched
+pub mod Listed

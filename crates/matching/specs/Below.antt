@@ -1,6 +1,7 @@
 -- Places below a number: whether some or every one has a property, and the last that has it.
 use Prim.Native.Nat.{ℕ, zero, suc}
 use mathlib.Core.Bool.{Bool, true, false, _&&_, _||_, cond}
+use mathlib.Core.List.{List, [], _∷_, _++_}
 
 unfoldable pub some : (ℕ → Bool) → ℕ → Bool
 some p zero = false
@@ -14,3 +15,8 @@ every p (suc n) = every p n && p n
 unfoldable pub last : (ℕ → Bool) → ℕ → ℕ
 last p zero = zero
 last p (suc n) = cond (p n) n (last p n)
+
+-- the places below n that p holds of, in order
+unfoldable pub placesBelow : (ℕ → Bool) → ℕ → List ℕ
+placesBelow p zero = []
+placesBelow p (suc n) = placesBelow p n ++ cond (p n) (n ∷ []) []

@@ -4,3 +4,4 @@ pub mod Below
 pub mod Order
 pub mod Packed
 pub mod Matching
+pub mod Family

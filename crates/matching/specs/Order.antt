@@ -1,15 +1,16 @@
 -- Section 4: the order of faces.
-use Prim.Native.Nat.{ℕ, _≤_, _<_}
+use Prim.Native.Nat.{ℕ, _-_, _≤_, _<_}
 use mathlib.Core.Path.{_≡_}
 use mathlib.Core.Bool.{Bool, true, false, not, _&&_, _||_, cond}
-use mathlib.Core.List.{List}
+use mathlib.Core.List.{List, _++_}
 use lib.Dec.{leb, ltb, eqb}
-use lib.ListN.{getD}
+use lib.ListN.{getD, length, replicate}
 use lib.Ieee.{neg}
 use Rattle.font.specs.First.{first}
 use Rattle.font.specs.Single.{single, orderKey}
 use Rattle.matching.specs.declared.rank.Standing.{Standing}
 use Rattle.matching.specs.declared.rank.Standing.the-variants.{Up, Down, Nowhere}
+use Rattle.matching.specs.declared.stages.Places.{Places}
 -- A request: its whole percent, its style and weight as numbers, as those of a face, and whether synthesis is on.
 use Rattle.matching.specs.declared.order.Request.{Request}
 use Rattle.matching.specs.Rank.{before, grouped}
@@ -219,3 +220,17 @@ pub record Demand (family : Family) (request : Request) (r : ℕ) : Type 0 where
   pub stands : r < family .count → (j : ℕ) → j < family .count → (j ≡ r → ⊥) → standsBefore family request r j ≡ true
   pub none : r ≡ family .count → emptyCase family request ≡ true
   pub empty : emptyCase family request ≡ true → r ≡ family .count
+
+-- "The equal list is every place whose exact ratio, style and weight equal the chosen face's, in place order". Ratios, styles and weights are given by a list each,
+-- as order numbers and style numbers.
+unfoldable pub equalTo : List ℕ → List ℕ → List ℕ → ℕ → ℕ → Bool
+equalTo ratios styles weights chosen j =
+    eqb (getD ratios j 0) (getD ratios chosen 0)
+    && (eqb (getD styles j 0) (getD styles chosen 0) && eqb (getD weights j 0) (getD weights chosen 0))
+
+-- The list as the code carries it: 64 places, those past its length zero.
+unfoldable pub padded : List ℕ → List ℕ
+padded xs = xs ++ replicate (64 - length xs) 0
+
+unfoldable pub laidOut : List ℕ → Places
+laidOut xs = record { places = padded xs; count = length xs }

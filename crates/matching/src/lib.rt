@@ -4,3 +4,4 @@ pub mod order;
 pub mod stages;
 pub mod axes;
 pub mod matching;
+pub mod family;

@@ -4,10 +4,11 @@ ghost use mathlib.Core.Bool.{cond, false, _&&_};
 ghost use Prim.Native.Nat.{_-_, _^_, _<_, _≤_};
 ghost use lib.Dec.{eqb};
 ghost use lib.ListN.{getD};
+ghost use mathlib.Core.List.{[]};
 ghost use Rattle.font.specs.First.{leastBelow};
 ghost use Rattle.matching.specs.Packed.{packed, placeOf, Short};
-ghost use Rattle.matching.specs.Below.{some};
-ghost use Rattle.matching.specs.Order.{widthStanding, styleStanding, weightStanding, familyOfLists, choice};
+ghost use Rattle.matching.specs.Below.{some, placesBelow};
+ghost use Rattle.matching.specs.Order.{widthStanding, styleStanding, weightStanding, familyOfLists, choice, equalTo, laidOut};
 use crate::order;
 use crate::order::Request;
 use crate::rank;
@@ -121,4 +122,56 @@ pub fn choose(percents: &[u32; 64], styles: &[u32; 64], weights: &[u32; 64], sla
     let bearer = rank::place_of(best);
     let style = styles[bearer];
     rank::place_of(weight_stage(percents, styles, weights, count, percent, style, request.weight))
+}
+
+// Whether all three hold.
+fn all(a: bool, b: bool, c: bool) -> bool
+    ensures { λ r. ⌜ r ≡ (a && (b && c)) ⌝ }
+{
+    if a {
+        if b {
+            return c;
+        }
+    }
+    false
+}
+
+// Places of a family, in order. Those past the count are zero.
+pub struct Places {
+    pub places: [usize; 64],
+    pub count: usize,
+}
+
+// No places.
+pub fn none() -> Places
+    ensures { λ r. ⌜ r ≡ laidOut [] ⌝ }
+{
+    Places {
+        places: [0usize; 64],
+        count: 0,
+    }
+}
+
+// The places whose ratio, style and weight equal the chosen face's.
+pub fn equal_places(ratios: &[u32; 64], styles: &[u32; 64], weights: &[u32; 64], count: usize, chosen: usize) -> Places
+    requires { ⌜ (count ≤ 64) × (chosen < 64) ⌝ }
+    ensures { λ r. ⌜ r ≡ laidOut (placesBelow (equalTo (now (ratios .entry)) (now (styles .entry)) (now (weights .entry)) chosen) count) ⌝ }
+{
+    let ratio = ratios[chosen];
+    let style = styles[chosen];
+    let weight = weights[chosen];
+    let mut places = [0usize; 64];
+    let mut found: usize = 0;
+    let mut i: usize = 0;
+    while i < count {
+        if all(ratios[i] == ratio, styles[i] == style, weights[i] == weight) {
+            places[found] = i;
+            found += 1;
+        }
+        i += 1;
+    }
+    Places {
+        places,
+        count: found,
+    }
 }
