@@ -9,7 +9,8 @@ use Rattle.matching.specs.declared.order.Request.{Request}
 use Rattle.matching.specs.Order.{choice}
 use Rattle.query.specs.declared.offers.FamilyOffer.{FamilyOffer}
 use Rattle.query.specs.declared.offers.FamilyOffer.the-variants.{Place, Left}
-use Rattle.query.specs.Offers.{pick, places, Group, heldEqual, offersDefault, defaultPlace, defaultOffers, familyOffers}
+use Rattle.matching.specs.Below.{placesBelow}
+use Rattle.query.specs.Offers.{pick, Group, heldEqual, offersDefault, defaultPlace, defaultOffers, familyOffers}
 use Rattle.query.proofs.Picked.{pick-append, pick-then}
 
 -- the first of one thing, and past it
@@ -55,11 +56,11 @@ after group chosen (Place p) = Place p
 after group chosen (Left k) = pick Place Left (defaultOffers group chosen) k
 
 module _ (group : Group) (request : Request) (n chosen : ℕ) (chosen-is : chosen ≡ choice (group .family) request) where
-  pub after-equal : (r : FamilyOffer) → r ≡ pick Place Left (places (heldEqual group chosen) (group .family .count)) n
+  pub after-equal : (r : FamilyOffer) → r ≡ pick Place Left (placesBelow (heldEqual group chosen) (group .family .count)) n
     → after group chosen r ≡ pick Place Left (familyOffers group request) n
   unfolding familyOffers
   after-equal r e =
       rw (← chosen-is)
       (ap (after group chosen) e
-      ∙ pick-then (after group chosen) Place Left (places (heldEqual group chosen) (group .family .count)) n
-      ∙ sym (pick-append Place Left (places (heldEqual group chosen) (group .family .count)) (defaultOffers group chosen) n))
+      ∙ pick-then (after group chosen) Place Left (placesBelow (heldEqual group chosen) (group .family .count)) n
+      ∙ sym (pick-append Place Left (placesBelow (heldEqual group chosen) (group .family .count)) (defaultOffers group chosen) n))

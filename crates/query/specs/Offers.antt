@@ -5,13 +5,14 @@ use mathlib.Core.List.{List, [], _∷_, _++_, map}
 use lib.Dec.{ltb, eqb}
 use lib.ListN.{length, getD, take}
 use Rattle.font.specs.First.{tabulate}
-use Rattle.font.specs.Single.{orderKey, wholePercent}
+use Rattle.font.specs.Single.{orderKey}
 use Rattle.font.specs.Tables.{u16At}
 use Rattle.font.specs.Attributes.{defaultAttributes}
 use Rattle.font.specs.declared.font.FontInfo.{FontInfo}
 use Rattle.matching.specs.declared.order.Request.{Request}
 use Rattle.matching.specs.Order.{Face, Family, choice, faceOfLists, familyOfLists}
-use Rattle.matching.specs.Matching.{styleNumber, faceOf, blank}
+use Rattle.matching.specs.Below.{placesBelow}
+use Rattle.matching.specs.Matching.{faceOf, blank, requestOf}
 use Rattle.query.specs.declared.offers.Offer.{Offer}
 use Rattle.query.specs.declared.offers.FamilyOffer.{FamilyOffer}
 use Rattle.query.specs.declared.offers.FamilyOffer.the-variants as Family'
@@ -26,11 +27,6 @@ pick found past [] n = past n
 pick found past (x ∷ xs) zero = found x
 pick found past (x ∷ xs) (suc n) = pick found past xs n
 
--- the places below n that p holds of, in place order
-unfoldable pub places : (ℕ → Bool) → ℕ → List ℕ
-places p zero = []
-places p (suc n) = places p n ++ cond (p n) (n ∷ []) []
-
 -- ---- one family
 
 -- A family as the offers see it, by place: what the order looks at, the exact ratio by its order number, and whether the face is held.
@@ -44,23 +40,13 @@ unfoldable pub equalFaces : (ℕ → ℕ) → (ℕ → ℕ) → (ℕ → ℕ) �
 equalFaces ratio style weight chosen i =
     eqb (ratio i) (ratio chosen) && (eqb (style i) (style chosen) && eqb (weight i) (weight chosen))
 
--- the request for "default attributes with synthesis off"
-unfoldable pub defaultRequest : Request
-defaultRequest =
-    record {
-      percent = wholePercent (defaultAttributes .width .ratio);
-      style = styleNumber (defaultAttributes .style);
-      weight = orderKey (defaultAttributes .weight .value);
-      synthesis = false
-    }
-
 -- a chosen place, or 0 where none is chosen
 unfoldable pub orFirst : ℕ → ℕ → ℕ
 orFirst count chosen = cond (ltb chosen count) chosen 0
 
 -- Section 4: "A family's default is its choice for default attributes with synthesis off, or 0."
 unfoldable pub defaultPlace : Family → ℕ
-defaultPlace family = orFirst (family .count) (choice family defaultRequest)
+defaultPlace family = orFirst (family .count) (choice family (requestOf defaultAttributes false))
 
 module _ (group : Group) (chosen : ℕ) where
   -- "held equal faces": the equal list is "every place whose exact ratio, style and weight equal the chosen face's, in place order; empty where none is chosen";
@@ -81,7 +67,7 @@ module _ (group : Group) (chosen : ℕ) where
 -- "Each offers its held equal faces, then its held default unless offered."
 unfoldable pub familyOffers : Group → Request → List ℕ
 familyOffers group request =
-    places (heldEqual group (choice (group .family) request)) (group .family .count)
+    placesBelow (heldEqual group (choice (group .family) request)) (group .family .count)
     ++ defaultOffers group (choice (group .family) request)
 
 -- the family whose faces are given by a list for each number

@@ -5,9 +5,12 @@ ghost use Prim.Native.Nat.{ℕ, _+_, _*_, _^_, _≤_, _<_};
 ghost use lib.Dec.{ltb};
 ghost use lib.ListN.{length, getD};
 ghost use Rattle.font.specs.Tables.{u16At};
+ghost use Rattle.matching.specs.Below.{placesBelow};
 ghost use Rattle.matching.specs.Order.{familyOfLists};
-ghost use Rattle.query.specs.Offers.{pick, places, equalFaces, defaultRequest, defaultPlace, defaultOffers, familyOffers, groupOfLists, facesOfLists, groupOf, numbersAt, Small, familiesAt, numberOffers, inTurn, listAt, fallbacksAt, offers, offerAt};
+ghost use Rattle.query.specs.Offers.{pick, equalFaces, defaultPlace, defaultOffers, familyOffers, groupOfLists, facesOfLists, groupOf, numbersAt, Small, familiesAt, numberOffers, inTurn, listAt, fallbacksAt, offers, offerAt};
+use font::attributes::Attributes;
 use font::tables;
+use matching::matching::request_of;
 use matching::order::Request;
 use matching::stages;
 
@@ -35,24 +38,12 @@ pub enum Offered {
     Past,
 }
 
-// The request for default attributes with synthesis off.
-fn default_request() -> Request
-    ensures { λ r. ⌜ r ≡ defaultRequest ⌝ }
-{
-    Request {
-        percent: 100,
-        style: 0,
-        weight: 0xC3C8_0000,
-        synthesis: false,
-    }
-}
-
 // The place of a family's default.
 fn default_place(percents: &[u32; 64], styles: &[u32; 64], weights: &[u32; 64], slants: &[bool; 64], count: usize) -> usize
     requires { ⌜ count ≤ 64 ⌝ }
     ensures { λ r. ⌜ r ≡ defaultPlace (familyOfLists (now (percents .entry)) (now (styles .entry)) (now (weights .entry)) (now (slants .entry)) count) ⌝ }
 {
-    let place = stages::choose(percents, styles, weights, slants, count, default_request());
+    let place = stages::choose(percents, styles, weights, slants, count, request_of(Attributes::DEFAULT, false));
     if place < count { place } else { 0 }
 }
 
@@ -77,7 +68,7 @@ fn held_equal(ratios: &[u32; 64], styles: &[u32; 64], weights: &[u32; 64], held:
 // The n-th of the held faces that equal the chosen one.
 fn equal_offer(ratios: &[u32; 64], styles: &[u32; 64], weights: &[u32; 64], held: &[bool; 64], count: usize, chosen: usize, n: usize) -> FamilyOffer
     requires { ⌜ count ≤ 64 ⌝ }
-    ensures { λ r. ⌜ r ≡ pick FamilyOffer.Place FamilyOffer.Left (places (λ i. ltb chosen count && (getD (now (held .entry)) i false && equalFaces (λ j. getD (now (ratios .entry)) j 0) (λ j. getD (now (styles .entry)) j 0) (λ j. getD (now (weights .entry)) j 0) chosen i)) count) n ⌝ }
+    ensures { λ r. ⌜ r ≡ pick FamilyOffer.Place FamilyOffer.Left (placesBelow (λ i. ltb chosen count && (getD (now (held .entry)) i false && equalFaces (λ j. getD (now (ratios .entry)) j 0) (λ j. getD (now (styles .entry)) j 0) (λ j. getD (now (weights .entry)) j 0) chosen i)) count) n ⌝ }
 {
     let mut left = n;
     let mut i: usize = 0;

@@ -9,7 +9,8 @@ use lib.Dec.{ltb}
 use lib.ListN.{length, getD}
 use denote.Ref.{now}
 use Rattle.query.specs.declared.offers.FamilyOffer.the-variants.{Place, Left}
-use Rattle.query.specs.Offers.{pick, places, equalFaces}
+use Rattle.matching.specs.Below.{placesBelow}
+use Rattle.query.specs.Offers.{pick, equalFaces}
 use Rattle.query.proofs.Picked.{pick-past}
 use Rattle.query.proofs.Places.{length-more, length-same, met}
 use Rattle.query.proofs.offers.equal_offer.Statement.{statement}
@@ -23,14 +24,14 @@ kept ratios styles weights held count chosen i =
     ltb chosen count && (getD held i false && equalFaces (λ j. getD ratios j 0) (λ j. getD styles j 0) (λ j. getD weights j 0) chosen i)
 
 abbrev Inv-loop : tie.InvT-loop
-Inv-loop ratios styles weights held count chosen n left₀ i₀ left i = (i ≤ count) × (n ≡ length (places (kept ratios styles weights held count chosen) i) + left)
+Inv-loop ratios styles weights held count chosen n left₀ i₀ left i = (i ≤ count) × (n ≡ length (placesBelow (kept ratios styles weights held count chosen) i) + left)
 
 abbrev μ-loop : tie.MeasureT-loop
 μ-loop ratios styles weights held count chosen n left₀ i₀ left i = count - i
 
 -- src/offers.rt:84:5
 loop-holds : tie.Need-loop-holds Inv-loop μ-loop
-unfolding places
+unfolding placesBelow
 loop-holds c = (omega arith, omega arith)
 
 -- src/offers.rt:85:12
@@ -46,8 +47,8 @@ returns : tie.Need-returns Inv-loop μ-loop
 returns c =
     let a = c .before .before .before .before .before .args in
     let p = kept (now (a .ratios)) (now (a .styles)) (now (a .weights)) (now (a .held)) (a .count) (a .chosen) in
-    let e : a .n ≡ length (places p (c .before .before .before .before .loop .i)) = omega arith in
-    sym (ap (pick Place Left (places p (a .count))) e ∙ met p Place Left (c .before .before .before .before .loop .i) (a .count) (omega arith) (sym (c .before .before .held-equal .ensures) ∙ c .before .if1 .taken))
+    let e : a .n ≡ length (placesBelow p (c .before .before .before .before .loop .i)) = omega arith in
+    sym (ap (pick Place Left (placesBelow p (a .count))) e ∙ met p Place Left (c .before .before .before .before .loop .i) (a .count) (omega arith) (sym (c .before .before .held-equal .ensures) ∙ c .before .if1 .taken))
 
 -- src/offers.rt:89:13
 sub-left : tie.Need-sub-left Inv-loop μ-loop
@@ -79,7 +80,7 @@ returns-2 c =
     let a = c .before .before .args in
     let p = kept (now (a .ratios)) (now (a .styles)) (now (a .weights)) (now (a .held)) (a .count) (a .chosen) in
     let e : c .before .loop .i ≡ a .count = omega arith in
-    sym (pick-past Place Left (places p (a .count)) (a .n) (c .before .loop .left) (c .before .loop .inv .1 ∙ ap (λ k. length (places p k) + c .before .loop .left) e))
+    sym (pick-past Place Left (placesBelow p (a .count)) (a .n) (c .before .loop .left) (c .before .loop .inv .1 ∙ ap (λ k. length (placesBelow p k) + c .before .loop .left) e))
 
 pub equal-offer-spec : {M : Type 1} → statement M
 equal-offer-spec =
