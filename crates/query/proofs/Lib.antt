@@ -4,3 +4,5 @@ pub mod Places
 pub mod Defaults
 pub mod Gathered
 pub mod Turns
+pub mod Written
+pub mod Signs

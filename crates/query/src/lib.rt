@@ -1,2 +1,3 @@
 // Jobs and offers.
 pub mod offers;
+pub mod record;
