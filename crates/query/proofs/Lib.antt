@@ -6,3 +6,5 @@ pub mod Gathered
 pub mod Turns
 pub mod Written
 pub mod Signs
+pub mod Run
+pub mod Listed

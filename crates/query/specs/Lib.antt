@@ -1,3 +1,4 @@
 -- What the contracts of `query` cite. Each definition is written from the scope's section 6.
 pub mod Offers
 pub mod Record
+pub mod Cursor

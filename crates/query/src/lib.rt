@@ -1,3 +1,4 @@
 // Jobs and offers.
 pub mod offers;
 pub mod record;
+pub mod cursor;

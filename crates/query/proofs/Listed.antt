@@ -1,0 +1,1 @@
+-- Sanity of the list of offers.
