@@ -181,12 +181,12 @@ module _ (family : Family) (request : Request) (bounds : Bounded family) where
 
   -- each of the three tests is a comparison of packed numbers
   pub width-is : (i j : ℕ) → i < family .count → j < family .count
-    → widthBefore family request i j ≡ ltb (packed (inWidth family request i) 0) (packed (inWidth family request j) 0)
+      → widthBefore family request i j ≡ ltb (packed (inWidth family request i) 0) (packed (inWidth family request j) 0)
   unfolding widthBefore
   width-is i j h k = ranks (inWidth family request i) (inWidth family request j) 0 0 (width-fits i h) (width-fits j k) (omega arith) (omega arith)
 
   pub style-is : (i j : ℕ) → i < family .count → j < family .count
-    → styleBefore family request i j
+      → styleBefore family request i j
       ≡ ltb (packed (inStyle family request i) (bearer family request i)) (packed (inStyle family request j) (bearer family request j))
   unfolding styleBefore
   style-is i j h k =
@@ -195,7 +195,7 @@ module _ (family : Family) (request : Request) (bounds : Bounded family) where
 
   -- equal in width is of one percent
   pub width-level : (i j : ℕ) → i < family .count → j < family .count
-    → packed (inWidth family request i) 0 ≡ packed (inWidth family request j) 0 → samePercent family i j ≡ true
+      → packed (inWidth family request i) 0 ≡ packed (inWidth family request j) 0 → samePercent family i j ≡ true
   unfolding inWidth
   width-level i j h k e =
       same-percent family i j
@@ -213,7 +213,7 @@ module _ (family : Family) (request : Request) (bounds : Bounded family) where
     weight-fits i h = weight-sized (request .weight) (family .face i .weight) (weights i h)
 
     pub weight-is : (i j : ℕ) → i < family .count → j < family .count
-      → weightBefore family request i j ≡ ltb (packed (inWeight family request i) i) (packed (inWeight family request j) j)
+        → weightBefore family request i j ≡ ltb (packed (inWeight family request i) i) (packed (inWeight family request j) j)
     unfolding weightBefore
     weight-is i j h k =
         ranks (inWeight family request i) (inWeight family request j) i j (weight-fits i h) (weight-fits j k) (omega (arith, bounds .most)) (omega (arith, bounds .most))
@@ -226,11 +226,11 @@ module _ (family : Family) (request : Request) (bounds : Bounded family) where
         (hasGroup family request i)
 
     stands-is : (i j : ℕ) → i < family .count → j < family .count
-      → standsBefore family request i j
+        → standsBefore family request i j
         ≡ lexTest (packed (inWidth family request i) 0) (packed (inWidth family request j) 0)
-          (packed (inStyle family request i) (bearer family request i)) (packed (inStyle family request j) (bearer family request j))
-          (packed (inWeight family request i) i) (packed (inWeight family request j) j)
-          (hasGroup family request i)
+        (packed (inStyle family request i) (bearer family request i)) (packed (inStyle family request j) (bearer family request j))
+        (packed (inWeight family request i) i) (packed (inWeight family request j) j)
+        (hasGroup family request i)
     unfolding standsBefore
     stands-is i j h k = rw (width-is i j h k, width-is j i k h, style-is i j h k, style-is j i k h, weight-is i j h k)
 
@@ -248,11 +248,11 @@ module _ (family : Family) (request : Request) (bounds : Bounded family) where
 
     -- "no two stand before each other"
     pub asymmetric : (i j : ℕ) → i < family .count → j < family .count
-      → standsBefore family request i j ≡ true → standsBefore family request j i ≡ true → ⊥
+        → standsBefore family request i j ≡ true → standsBefore family request j i ≡ true → ⊥
     asymmetric i j h k e f = lex-one-way (stands→ahead i j h k e) (stands→ahead j i k h f)
 
     pub transitive : (i j k : ℕ) → i < family .count → j < family .count → k < family .count
-      → standsBefore family request i j ≡ true → standsBefore family request j k ≡ true → standsBefore family request i k ≡ true
+        → standsBefore family request i j ≡ true → standsBefore family request j k ≡ true → standsBefore family request i k ≡ true
     transitive i j k hi hj hk e f = ahead→stands i k hi hk (lex-trans (stands→ahead i j hi hj e) (stands→ahead j k hj hk f))
 
     pub weighed : (m : ℕ) → grouped (inWeight family request m) ≡ true
@@ -261,8 +261,8 @@ module _ (family : Family) (request : Request) (bounds : Bounded family) where
 
     -- of two different faces of which one has a group, or of different percents, one stands before the other
     pub connected : (i j : ℕ) → i < family .count → j < family .count → (i ≡ j → ⊥)
-      → (hasGroup family request i ≡ true) ⊎ ((hasGroup family request j ≡ true) ⊎ (samePercent family i j ≡ false))
-      → (standsBefore family request i j ≡ true) ⊎ (standsBefore family request j i ≡ true)
+        → (hasGroup family request i ≡ true) ⊎ ((hasGroup family request j ≡ true) ⊎ (samePercent family i j ≡ false))
+        → (standsBefore family request i j ≡ true) ⊎ (standsBefore family request j i ≡ true)
     unfolding hasGroup
     connected i j h k d g = width (tri (packed (inWidth family request i) 0) (packed (inWidth family request j) 0))
       where
@@ -270,22 +270,23 @@ module _ (family : Family) (request : Request) (bounds : Bounded family) where
         Answer = (standsBefore family request i j ≡ true) ⊎ (standsBefore family request j i ≡ true)
 
         group-of : (m n : ℕ) → m < family .count → n < family .count → grouped (inStyle family request m) ≡ true
-          → packed (inStyle family request m) (bearer family request m) ≡ packed (inStyle family request n) (bearer family request n)
-          → grouped (inStyle family request n) ≡ true
+            → packed (inStyle family request m) (bearer family request m) ≡ packed (inStyle family request n) (bearer family request n)
+            → grouped (inStyle family request n) ≡ true
         group-of m n hm hn e q =
             ⊎-elim (λ (t : grouped (inStyle family request n) ≡ true). t)
             (λ (f : grouped (inStyle family request n) ≡ false).
-              absurd
-              (omega
-              ( arith
-              , packed-below (inStyle family request m) (bearer family request m) (style-fits m hm) (bearer-fits m hm) e
-              , ungrouped (inStyle family request n) (bearer family request n) f )))
+            absurd
+            (omega (
+              arith,
+              packed-below (inStyle family request m) (bearer family request m) (style-fits m hm) (bearer-fits m hm) e,
+              ungrouped (inStyle family request n) (bearer family request n) f,
+            )))
             (truth (grouped (inStyle family request n)))
 
         weight : packed (inWidth family request i) 0 ≡ packed (inWidth family request j) 0
-          → packed (inStyle family request i) (bearer family request i) ≡ packed (inStyle family request j) (bearer family request j)
-          → grouped (inStyle family request i) ≡ true
-          → Tri (packed (inWeight family request i) i) (packed (inWeight family request j) j) → Answer
+            → packed (inStyle family request i) (bearer family request i) ≡ packed (inStyle family request j) (bearer family request j)
+            → grouped (inStyle family request i) ≡ true
+            → Tri (packed (inWeight family request i) i) (packed (inWeight family request j) j) → Answer
         weight e f a (low l) = inl (ahead→stands i j h k (by-weight e f a l))
         weight e f a (high l) = inr (ahead→stands j i k h (by-weight (sym e) (sym f) (group-of i j h k a f) l))
         weight e f a (same l) =
@@ -295,7 +296,7 @@ module _ (family : Family) (request : Request) (bounds : Bounded family) where
             (omega (arith, bounds .most)) (omega (arith, bounds .most)) (weighed i) l))
 
         style : packed (inWidth family request i) 0 ≡ packed (inWidth family request j) 0
-          → Tri (packed (inStyle family request i) (bearer family request i)) (packed (inStyle family request j) (bearer family request j)) → Answer
+            → Tri (packed (inStyle family request i) (bearer family request i)) (packed (inStyle family request j) (bearer family request j)) → Answer
         style e (low l) = inl (ahead→stands i j h k (by-style e l))
         style e (high l) = inr (ahead→stands j i k h (by-style (sym e) l))
         style e (same f) =

@@ -144,8 +144,8 @@ module _ (p : ℕ → Bool) where
       before-n f = ⊎-elim (λ (l : i < n). l) (λ (k : i ≡ n). absurd (clash e (ap p k ∙ f))) (below-suc n i h)
 
       go : (b : Bool) → p n ≡ b
-        → (i < n → (last p n < n) × (p (last p n) ≡ true) × (i ≤ last p n))
-        → (cond b n (last p n) < suc n) × (p (cond b n (last p n)) ≡ true) × (i ≤ cond b n (last p n))
+          → (i < n → (last p n < n) × (p (last p n) ≡ true) × (i ≤ last p n))
+          → (cond b n (last p n) < suc n) × (p (cond b n (last p n)) ≡ true) × (i ≤ cond b n (last p n))
       go true t rest = (omega arith, t, omega arith)
       go false f rest = let r = rest (before-n f) in (omega (arith, r .0), r .1, r .2)
 
@@ -170,8 +170,9 @@ module _ (top : ℕ) (f : ℕ → ℕ) where
   least-at zero h = absurd (omega arith)
   least-at (suc n) h =
       elim (decLt (f n) (leastBelow top f n)) [
-        yes l ↦ (n, omega arith, omega arith)
-      | no g ↦ let r = least-at n (omega arith) in (r .0, omega (arith, r .1), omega (arith, r .2)) ]
+        | yes l ↦ (n, omega arith, omega arith)
+        | no g ↦ let r = least-at n (omega arith) in (r .0, omega (arith, r .1), omega (arith, r .2))
+      ]
 
   -- a turn of the scan
   pub least-more : (i : ℕ) {best rank next : ℕ} → best ≡ leastBelow top f i → rank ≡ f i → next ≡ min best rank → next ≡ leastBelow top f (i + 1)

@@ -53,8 +53,9 @@ module _ (family : Family) (request : Request) (bounds : Bounded family) where
     unfolding standsBefore
     first-width i h e =
         elim (ℕ-discrete lead i) [
-          yes q ↦ same-percent family lead i (ap (λ (k : ℕ). family .face k .percent) (sym q))
-        | no d ↦ go (first-before i lead within d e) ]
+          | yes q ↦ same-percent family lead i (ap (λ (k : ℕ). family .face k .percent) (sym q))
+          | no d ↦ go (first-before i lead within d e)
+        ]
       where
         rest : Bool
         rest = styleBefore family request i lead || (not (styleBefore family request lead i) && (hasGroup family request i && weightBefore family request i lead))
@@ -63,19 +64,21 @@ module _ (family : Family) (request : Request) (bounds : Bounded family) where
         go s =
             ⊎-elim
             (λ (w : widthBefore family request i lead ≡ true).
-              absurd
-              (omega
-              ( arith
-              , least-width i h
-              , ltb-true (packed (inWidth family request i) 0) (packed (inWidth family request lead) 0) (sym (width-is family request bounds i lead h within) ∙ w) )))
+            absurd
+            (omega (
+              arith,
+              least-width i h,
+              ltb-true (packed (inWidth family request i) 0) (packed (inWidth family request lead) 0) (sym (width-is family request bounds i lead h within) ∙ w),
+            )))
             (λ (w : not (widthBefore family request lead i) && rest ≡ true).
-              width-level family request bounds lead i within h
-              (omega
-              ( arith
-              , least-width i h
-              , ltb-false (packed (inWidth family request lead) 0) (packed (inWidth family request i) 0)
-                (sym (width-is family request bounds lead i within h)
-                ∙ not-true (widthBefore family request lead i) (both (not (widthBefore family request lead i)) rest w .0)) )))
+            width-level family request bounds lead i within h
+            (omega (
+              arith,
+              least-width i h,
+              ltb-false (packed (inWidth family request lead) 0) (packed (inWidth family request i) 0)
+                  (sym (width-is family request bounds lead i within h)
+                  ∙ not-true (widthBefore family request lead i) (both (not (widthBefore family request lead i)) rest w .0)),
+            )))
             (either (widthBefore family request i lead) (not (widthBefore family request lead i) && rest) s)
 
     -- where no face of that percent has a group, none is chosen
@@ -89,10 +92,10 @@ module _ (family : Family) (request : Request) (bounds : Bounded family) where
         not-first i h =
             ⊎-elim
             (λ (e : standsFirst family request i ≡ true).
-              absurd
-              (clash
-              (both (hasGroup family request i) (every (λ k. eqb k i || standsBefore family request i k) (family .count)) e .0)
-              (without i h (first-width i h e))))
+            absurd
+            (clash
+            (both (hasGroup family request i) (every (λ k. eqb k i || standsBefore family request i k) (family .count)) e .0)
+            (without i h (first-width i h e))))
             (λ (f : standsFirst family request i ≡ false). f)
             (truth (standsFirst family request i))
 
@@ -111,11 +114,12 @@ module _ (family : Family) (request : Request) (bounds : Bounded family) where
       best-style : packed (inStyle family request best) (bearer family request best) ≡ packed (inStyle family request best) best
       best-style =
           let b = bearer-bears family request best best-in group in
-          omega
-          ( arith
-          , bearer-least best best-in
-          , bests (bearer family request best) (b .0) (at-lead best (bearer family request best) wide (bears-parts family best (bearer family request best) (b .1) .0))
-          , style-at best (bearer family request best) (b .1) )
+          omega (
+            arith,
+            bearer-least best best-in,
+            bests (bearer family request best) (b .0) (at-lead best (bearer family request best) wide (bears-parts family best (bearer family request best) (b .1) .0)),
+            style-at best (bearer family request best) (b .1),
+          )
 
       r-style : packed (inStyle family request r) (bearer family request r) ≡ packed (inStyle family request best) best
       r-style =
@@ -130,18 +134,19 @@ module _ (family : Family) (request : Request) (bounds : Bounded family) where
 
       -- every other face of that percent is not before it in style, and level only with the same style
       style-least : (j : ℕ) → j < family .count → samePercent family lead j ≡ true
-        → (packed (inStyle family request best) best < packed (inStyle family request j) (bearer family request j)) ⊎ (bears family best j ≡ true)
+          → (packed (inStyle family request best) best < packed (inStyle family request j) (bearer family request j)) ⊎ (bears family best j ≡ true)
       unfolding hasGroup
       style-least j h e = go (truth (grouped (inStyle family request j)))
         where
           go : (grouped (inStyle family request j) ≡ true) ⊎ (grouped (inStyle family request j) ≡ false)
-            → (packed (inStyle family request best) best < packed (inStyle family request j) (bearer family request j)) ⊎ (bears family best j ≡ true)
+              → (packed (inStyle family request best) best < packed (inStyle family request j) (bearer family request j)) ⊎ (bears family best j ≡ true)
           go (inr f) =
               inl
-              (omega
-              ( arith
-              , packed-below (inStyle family request best) best (style-fits family request bounds best best-in) (fits64 best best-in) group
-              , ungrouped (inStyle family request j) (bearer family request j) f ))
+              (omega (
+                arith,
+                packed-below (inStyle family request best) best (style-fits family request bounds best best-in) (fits64 best best-in) group,
+                ungrouped (inStyle family request j) (bearer family request j) f,
+              ))
           go (inl g) = level-or (tri (packed (inStyle family request best) best) (packed (inStyle family request j) (bearer family request j)))
             where
               b : ℕ
@@ -152,13 +157,14 @@ module _ (family : Family) (request : Request) (bounds : Bounded family) where
 
               no-higher : packed (inStyle family request best) best ≤ packed (inStyle family request j) b
               no-higher =
-                  omega
-                  ( arith
-                  , bests b (b-in .0) (at-lead j b e (bears-parts family j b (b-in .1) .0))
-                  , style-at j b (b-in .1) )
+                  omega (
+                    arith,
+                    bests b (b-in .0) (at-lead j b e (bears-parts family j b (b-in .1) .0)),
+                    style-at j b (b-in .1),
+                  )
 
               level-or : Tri (packed (inStyle family request best) best) (packed (inStyle family request j) b)
-                → (packed (inStyle family request best) best < packed (inStyle family request j) b) ⊎ (bears family best j ≡ true)
+                  → (packed (inStyle family request best) best < packed (inStyle family request j) b) ⊎ (bears family best j ≡ true)
               level-or (low l) = inl l
               level-or (high l) = absurd (omega (arith, no-higher))
               level-or (same q) =
@@ -173,9 +179,9 @@ module _ (family : Family) (request : Request) (bounds : Bounded family) where
       ahead j h d = width (tri (packed (inWidth family request lead) 0) (packed (inWidth family request j) 0))
         where
           weight : packed (inWidth family request r) 0 ≡ packed (inWidth family request j) 0
-            → packed (inStyle family request r) (bearer family request r) ≡ packed (inStyle family request j) (bearer family request j)
-            → packed (inWeight family request r) r ≤ packed (inWeight family request j) j
-            → Tri (packed (inWeight family request r) r) (packed (inWeight family request j) j) → Ahead family request bounds weights r j
+              → packed (inStyle family request r) (bearer family request r) ≡ packed (inStyle family request j) (bearer family request j)
+              → packed (inWeight family request r) r ≤ packed (inWeight family request j) j
+              → Tri (packed (inWeight family request r) r) (packed (inWeight family request j) j) → Ahead family request bounds weights r j
           weight w s l (low k) = by-weight w s r-group k
           weight w s l (high k) = absurd (omega arith)
           weight w s l (same k) =
@@ -184,8 +190,8 @@ module _ (family : Family) (request : Request) (bounds : Bounded family) where
               (same-place (inWeight family request r) (inWeight family request j) r j (weight-fits family request bounds weights r r-in) (weight-fits family request bounds weights j h) (fits64 r r-in) (fits64 j h) (weighed family request bounds weights r) k))
 
           style : packed (inWidth family request r) 0 ≡ packed (inWidth family request j) 0
-            → (packed (inStyle family request best) best < packed (inStyle family request j) (bearer family request j)) ⊎ (bears family best j ≡ true)
-            → Ahead family request bounds weights r j
+              → (packed (inStyle family request best) best < packed (inStyle family request j) (bearer family request j)) ⊎ (bears family best j ≡ true)
+              → Ahead family request bounds weights r j
           style w (inl l) = by-style w (omega (arith, r-style))
           style w (inr b) =
               weight w
@@ -205,9 +211,10 @@ module _ (family : Family) (request : Request) (bounds : Bounded family) where
           join r-group
           (every-all (λ j. eqb j r || standsBefore family request r j) (family .count)
           (λ j h.
-            elim (ℕ-discrete j r) [
-              yes q ↦ rw (eq-eqb j r q)
-            | no d ↦ or-right (eqb j r) (standsBefore family request r j) (ahead→stands family request bounds weights r j r-in h (ahead j h (λ q. d (sym q)))) ]))
+          elim (ℕ-discrete j r) [
+            | yes q ↦ rw (eq-eqb j r q)
+            | no d ↦ or-right (eqb j r) (standsBefore family request r j) (ahead→stands family request bounds weights r j r-in h (ahead j h (λ q. d (sym q))))
+          ]))
 
       pub chosen : choice family request ≡ r
       unfolding choice
@@ -215,10 +222,23 @@ module _ (family : Family) (request : Request) (bounds : Bounded family) where
           rw (le-ltb (family .count) 2 two)
           (first-only (standsFirst family request) (family .count) r r-in stands-first
           (λ i h e.
-            elim (ℕ-discrete i r) [
-              yes q ↦ q
+          elim (ℕ-discrete i r) [
+            | yes q ↦ q
             | no d ↦
                 absurd
                 (asymmetric family request bounds weights i r h r-in
                 (first-before i r r-in (λ q. d (sym q)) e)
-                (first-before r i h d stands-first)) ]))
+                (first-before r i h d stands-first))
+          ]))
+
+-- at most one place stands first, so the choice is the only one
+pub unique : (family : Family) (request : Request) (bounds : Bounded family) (weights : (i : ℕ) → i < family .count → family .face i .weight < 2 ^ 32) (i j : ℕ) → i < family .count → j < family .count → standsFirst family request i ≡ true → standsFirst family request j ≡ true → i ≡ j
+unique family request bounds weights i j h k e f =
+    elim (ℕ-discrete i j) [
+      | yes q ↦ q
+      | no d ↦
+          absurd
+          (asymmetric family request bounds weights i j h k
+          (first-before family request bounds i j k (λ q. d (sym q)) e)
+          (first-before family request bounds j i h d f))
+    ]

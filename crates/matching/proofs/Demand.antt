@@ -69,8 +69,8 @@ module _ (synthesis slant : Bool) (w s : ℕ) (big : oblique w ≡ true) (differ
       side = rw r
 
       go : (oblique s && leb (angle w) (angle s) ≡ true) ⊎ (oblique s && leb (angle w) (angle s) ≡ false)
-        → (oblique s && ltb zeroAngle (angle s) ≡ true) ⊎ (oblique s && ltb zeroAngle (angle s) ≡ false)
-        → grouped (rightStanding synthesis slant (angle w) s) ≡ not (shutOut synthesis slant w s)
+          → (oblique s && ltb zeroAngle (angle s) ≡ true) ⊎ (oblique s && ltb zeroAngle (angle s) ≡ false)
+          → grouped (rightStanding synthesis slant (angle w) s) ≡ not (shutOut synthesis slant w s)
       go (inl a) (inl b) = rw a (sym (on (side ∙ b)))
       go (inl a) (inr b) =
           let t = both (oblique s) (leb (angle w) (angle s)) a in
@@ -89,8 +89,8 @@ module _ (synthesis slant : Bool) (w s : ℕ) (big : oblique w ≡ true) (differ
       side = rw r
 
       go : (oblique s && leb (angle s) (angle w) ≡ true) ⊎ (oblique s && leb (angle s) (angle w) ≡ false)
-        → (oblique s && ltb (angle s) zeroAngle ≡ true) ⊎ (oblique s && ltb (angle s) zeroAngle ≡ false)
-        → grouped (leftStanding synthesis slant (angle w) s) ≡ not (shutOut synthesis slant w s)
+          → (oblique s && ltb (angle s) zeroAngle ≡ true) ⊎ (oblique s && ltb (angle s) zeroAngle ≡ false)
+          → grouped (leftStanding synthesis slant (angle w) s) ≡ not (shutOut synthesis slant w s)
       go (inl a) (inl b) = rw a (sym (on (side ∙ b)))
       go (inl a) (inr b) =
           let t = both (oblique s) (leb (angle s) (angle w)) a in
@@ -126,7 +126,7 @@ style-group synthesis slant w s = go (truth (eqb s w)) (ℕ-discrete w 0) (ℕ-d
     big d e = le-leb 2 w (omega arith)
 
     go : (eqb s w ≡ true) ⊎ (eqb s w ≡ false) → Dec (w ≡ 0) → Dec (w ≡ 1) → (leb zeroAngle (angle w) ≡ true) ⊎ (leb zeroAngle (angle w) ≡ false)
-      → grouped (styleStanding synthesis slant w s) ≡ not (shutOut synthesis slant w s)
+        → grouped (styleStanding synthesis slant w s) ≡ not (shutOut synthesis slant w s)
     go (inl e) d₀ d₁ r = rw e (equal (leb 2 w) synthesis slant)
     go (inr e) (yes z) d₁ r = rw (e, eq-eqb w 0 z, lt-leb 2 w (omega arith)) (normal-group s)
     go (inr e) (no z) (yes o) r = rw (e, ne-eqb w 0 z, eq-eqb w 1 o, lt-leb 2 w (omega arith)) (italic-group s)
@@ -157,12 +157,13 @@ module _ (family : Family) (request : Request) (bounds : Bounded family) (two : 
   unfolding chosenWidth
   at-chosen =
       width-level family request bounds lead c (leading .0) (found .0)
-      (omega
-      ( arith
-      , lowest c (found .0)
-      , ltb-false (packed (inWidth family request lead) 0) (packed (inWidth family request c) 0)
-        (sym (width-is family request bounds lead c (leading .0) (found .0))
-        ∙ not-true (widthBefore family request lead c) (every-at (λ j. not (widthBefore family request j c)) n lead (found .1) (leading .0))) ))
+      (omega (
+        arith,
+        lowest c (found .0),
+        ltb-false (packed (inWidth family request lead) 0) (packed (inWidth family request c) 0)
+            (sym (width-is family request bounds lead c (leading .0) (found .0))
+            ∙ not-true (widthBefore family request lead c) (every-at (λ j. not (widthBefore family request j c)) n lead (found .1) (leading .0))),
+      ))
     where
       unpassed : ℕ → Bool
       unpassed i = every (λ j. not (widthBefore family request j i)) n
@@ -214,18 +215,18 @@ module _ (family : Family) (request : Request) (bounds : Bounded family) (two : 
 
   -- a face that is in no group shows what shuts it out
   shown : (j : ℕ) → hasGroup family request j ≡ false
-    → (oblique (request .style) ≡ true) × (request .synthesis ≡ true) × (slantAt family j ≡ true) × (eqb (family .face j .style) (request .style) ≡ false) × (onSide (request .style) (family .face j .style) ≡ false)
+      → (oblique (request .style) ≡ true) × (request .synthesis ≡ true) × (slantAt family j ≡ true) × (eqb (family .face j .style) (request .style) ≡ false) × (onSide (request .style) (family .face j .style) ≡ false)
   shown j e =
       let t = not-false (shutOut (request .synthesis) (slantAt family j) (request .style) (family .face j .style)) (sym (group-is j) ∙ e) in
       let a = both (oblique (request .style)) (request .synthesis && (slantAt family j && (not (eqb (family .face j .style) (request .style)) && not (onSide (request .style) (family .face j .style))))) t in
       let b = both (request .synthesis) (slantAt family j && (not (eqb (family .face j .style) (request .style)) && not (onSide (request .style) (family .face j .style)))) (a .1) in
       let d = both (slantAt family j) (not (eqb (family .face j .style) (request .style)) && not (onSide (request .style) (family .face j .style))) (b .1) in
-      let f = both (not (eqb (family .face j .style) (request .style))) (not (onSide (request .style) (family .face j .style))) (d .1) in
-      ( a .0
-      , b .0
-      , d .0
-      , not-true (eqb (family .face j .style) (request .style)) (f .0)
-      , not-true (onSide (request .style) (family .face j .style)) (f .1)
+      let f = both (not (eqb (family .face j .style) (request .style))) (not (onSide (request .style) (family .face j .style))) (d .1) in (
+        a .0,
+        b .0,
+        d .0,
+        not-true (eqb (family .face j .style) (request .style)) (f .0),
+        not-true (onSide (request .style) (family .face j .style)) (f .1),
       )
 
   ungrouped-empty : ((j : ℕ) → j < n → samePercent family lead j ≡ true → hasGroup family request j ≡ false) → emptyCase family request ≡ true
@@ -264,7 +265,7 @@ module _ (family : Family) (request : Request) (bounds : Bounded family) (two : 
     within = in-family;
     stands = λ l j h d. first-before family request bounds (choice family request) j h d (first-of l);
     none = λ q. ungrouped-empty (without q);
-    empty = λ e. none-chosen family request bounds two lead (leading .0) (leading .1) (empty-ungrouped e)
+    empty = λ e. none-chosen family request bounds two lead (leading .0) (leading .1) (empty-ungrouped e);
   }
     where
       in-family : choice family request ≤ n
@@ -288,9 +289,9 @@ module _ (family : Family) (request : Request) (bounds : Bounded family) (two : 
           style-least =
               leastBelow (2 ^ 64 - 1)
               (λ i.
-                cond (eqb (family .face i .percent) (family .face lead .percent))
-                (packed (styleStanding (request .synthesis) (slantAt family lead) (request .style) (family .face i .style)) i)
-                (2 ^ 64 - 1))
+              cond (eqb (family .face i .percent) (family .face lead .percent))
+              (packed (styleStanding (request .synthesis) (slantAt family lead) (request .style) (family .face i .style)) i)
+              (2 ^ 64 - 1))
               n
 
           go : Dec (style-least ≡ 2 ^ 64 - 1) → (j : ℕ) → j < n → samePercent family lead j ≡ true → hasGroup family request j ≡ false
@@ -299,8 +300,9 @@ module _ (family : Family) (request : Request) (bounds : Bounded family) (two : 
               let k = placeOf style-least in
               let v = leastBelow (2 ^ 64 - 1) (λ i. cond (eqb (family .face i .percent) (family .face lead .percent) && eqb (family .face i .style) (family .face k .style)) (packed (weightStanding (request .weight) (family .face i .weight)) i) (2 ^ 64 - 1)) n in
               absurd
-              (omega
-              ( arith
-              , q
-              , r-found family request bounds two w refl lead refl (slantAt family lead) refl style-least refl weights d k refl v refl .0
-              , found-one family request bounds two w refl lead refl (slantAt family lead) refl style-least refl weights d k refl v refl ))
+              (omega (
+                arith,
+                q,
+                r-found family request bounds two w refl lead refl (slantAt family lead) refl style-least refl weights d k refl v refl .0,
+                found-one family request bounds two w refl lead refl (slantAt family lead) refl style-least refl weights d k refl v refl,
+              ))

@@ -11,3 +11,5 @@ pub mod Fill
 pub mod Gathered
 pub mod Matched
 pub mod Listed
+pub mod Tried
+pub mod Styles

@@ -43,11 +43,11 @@ module _ (p : ℕ → Bool) (i : ℕ) (places : List ℕ) (found : ℕ) (held : 
   Next = (places′ ≡ padded (placesBelow p (i + 1))) × (found′ ≡ length (placesBelow p (i + 1))) × (found′ ≤ i + 1)
 
   pub grown : i < 64 → p i ≡ true → places′ ≡ set places found i → found′ ≡ found + 1 → Next
-  grown l e a b =
-      ( a ∙ (λ k. set (held k) (many k) i) ∙ padded-more (placesBelow p i) i (omega arith) ∙ ap padded (sym (placed p i e))
-      , b ∙ (ap (λ (k : ℕ). k + 1) many ∙ sym (longer (placesBelow p i) i)) ∙ ap length (sym (placed p i e))
-      , omega arith
-      )
+  grown l e a b = (
+    a ∙ (λ k. set (held k) (many k) i) ∙ padded-more (placesBelow p i) i (omega arith) ∙ ap padded (sym (placed p i e)),
+    b ∙ (ap (λ (k : ℕ). k + 1) many ∙ sym (longer (placesBelow p i) i)) ∙ ap length (sym (placed p i e)),
+    omega arith,
+  )
 
   pub kept : p i ≡ false → places′ ≡ places → found′ ≡ found → Next
   kept e a b = (a ∙ held ∙ ap padded (sym (passed p i e)), b ∙ many ∙ ap length (sym (passed p i e)), omega arith)

@@ -59,7 +59,7 @@ module _ (fonts : List FontInfo) (n : ℕ) where
   bounded h = record {
     most = h;
     percents = λ i l. pick (λ (f : Face). f .percent < 2 ^ 32) (ltb i n) (percent-short (getD fonts i noFace .attributes .width .ratio)) (omega arith);
-    styles = λ i l. pick (λ (f : Face). f .style < 2 ^ 32) (ltb i n) (style-short (getD fonts i noFace .attributes .style)) (omega arith)
+    styles = λ i l. pick (λ (f : Face). f .style < 2 ^ 32) (ltb i n) (style-short (getD fonts i noFace .attributes .style)) (omega arith);
   }
 
   pub weights-short : (i : ℕ) → i < familyOf fonts n .count → familyOf fonts n .face i .weight < 2 ^ 32
@@ -130,10 +130,10 @@ module _ (fonts : List FontInfo) (n : ℕ) where
         go (inl t) = rw t (record {
           stands = λ p q. let k : r ≡ p = cc in subst Stands k (ltb-true r n t, law .stands (ltb-true r n t));
           none = λ q. absurd (let z : _≡_ {A = ℕ} 0 1 = cc in omega arith);
-          empty = λ q. absurd (omega (arith, ltb-true r n t, law .empty q))
+          empty = λ q. absurd (omega (arith, ltb-true r n t, law .empty q));
         })
         go (inr f) = rw f (record {
           stands = λ p q. absurd (let z : _≡_ {A = ℕ} 0 1 = cc in omega arith);
           none = λ q. law .none (omega (arith, ltb-false r n f, law .within));
-          empty = λ q. refl
+          empty = λ q. refl;
         })

@@ -99,11 +99,12 @@ ranks (Up t x) Nowhere p q hs hz hp hq = sym (lt-ltb (packed (Up t x) p) (2 ^ 64
 ranks (Down t x) (Up u y) p q hs hz hp hq =
     rw (up-is u y q, down-is t x p (hs .1) hp) (down-up t u (2 ^ 38 - 1 - (x * 64 + p)) (y * 64 + q) (omega arith) (omega arith))
 ranks (Down t x) (Down u y) p q hs hz hp hq =
-    rw
-    ( digits 64 y x q p hq hp
-    , turned-up (x * 64 + p) (y * 64 + q) (omega arith) (omega arith)
-    , down-is t x p (hs .1) hp
-    , down-is u y q (hz .1) hq )
+    rw (
+      digits 64 y x q p hq hp,
+      turned-up (x * 64 + p) (y * 64 + q) (omega arith) (omega arith),
+      down-is t x p (hs .1) hp,
+      down-is u y q (hz .1) hq,
+    )
     (digits (2 ^ 39) t u (2 ^ 38 + (2 ^ 38 - 1 - (x * 64 + p))) (2 ^ 38 + (2 ^ 38 - 1 - (y * 64 + q))) (omega arith) (omega arith))
 ranks (Down t x) Nowhere p q hs hz hp hq = sym (lt-ltb (packed (Down t x) p) (2 ^ 64 - 1) (packed-below (Down t x) p hs hp refl))
 ranks Nowhere z p q hs hz hp hq = sym (le-ltb (2 ^ 64 - 1) (packed z q) (packed-most z q hz hq))

@@ -42,7 +42,7 @@ module _ (keep : ℕ → Bool) (st : ℕ → Standing) (n : ℕ) (most : n ≤ 6
   rank-kept i e = rw e
 
   pub scan : (r place : ℕ) → r ≡ leastBelow (2 ^ 64 - 1) rank n → place ≡ placeOf r → (r ≡ 2 ^ 64 - 1 → ⊥)
-    → (place < n) × (keep place ≡ true) × (grouped (st place) ≡ true) × ((j : ℕ) → j < n → keep j ≡ true → packed (st place) place ≤ packed (st j) j)
+      → (place < n) × (keep place ≡ true) × (grouped (st place) ≡ true) × ((j : ℕ) → j < n → keep j ≡ true → packed (st place) place ≤ packed (st j) j)
   scan r place e q d = subst Found (sym here) (found .1, k .0, k .1, lowest)
     where
       Found : ℕ → Type 0
@@ -72,7 +72,7 @@ module _ (keep : ℕ → Bool) (st : ℕ → Standing) (n : ℕ) (most : n ≤ 6
   empty r e q j h t =
       ⊎-elim
       (λ (g : grouped (st j) ≡ true).
-        absurd (omega (arith, least-le (2 ^ 64 - 1) rank n j h, rank-kept j t, packed-below (st j) j (sized j h) (omega arith) g)))
+      absurd (omega (arith, least-le (2 ^ 64 - 1) rank n j h, rank-kept j t, packed-below (st j) j (sized j h) (omega arith) g)))
       (λ (f : grouped (st j) ≡ false). f)
       (truth (grouped (st j)))
 
@@ -151,11 +151,11 @@ module _ (family : Family) (request : Request) (bounds : Bounded family) (two : 
           (λ j h e. rw (style-here k (k-found .1), style-here j e) (k-found .3 j h e))
           (placeOf v) (r-found .0) bearing
           (λ j h b.
-            let t = bears-parts family k j b in
-            r-found .3 j h
-            (join
-            (eq-eqb (family .face j .percent) (family .face lead .percent) (percent-same family k j (t .0) ∙ eqb-true (family .face k .percent) (family .face lead .percent) (k-found .1)))
-            (eq-eqb (family .face j .style) (family .face k .style) (t .1)))))
+          let t = bears-parts family k j b in
+          r-found .3 j h
+          (join
+          (eq-eqb (family .face j .percent) (family .face lead .percent) (percent-same family k j (t .0) ∙ eqb-true (family .face k .percent) (family .face lead .percent) (k-found .1)))
+          (eq-eqb (family .face j .style) (family .face k .style) (t .1)))))
         where
           bearing : bears family k (placeOf v) ≡ true
           bearing =

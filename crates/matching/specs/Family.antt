@@ -15,7 +15,7 @@ unfoldable pub madeOf : List FontInfo → ℕ → Made
 madeOf fonts n =
     record {
       refusal = facesRefusal fonts n;
-      family = record { fonts = fonts; count = n; «default_font» = cond (eqb (facesRefusal fonts n) 0) (defaultPlace fonts n) 0 }
+      family = record { fonts = fonts; count = n; «default_font» = cond (eqb (facesRefusal fonts n) 0) (defaultPlace fonts n) 0 };
     }
 
 -- "`FamilyInfo::match_font` only fetches the face and refuses nothing further for a valid place": 19, then 24, and no 26.
@@ -27,5 +27,5 @@ unfoldable pub fetched : FamilyInfo → ℕ → Fetched
 fetched family place =
     record {
       refusal = fetchRefusal family place;
-      font = getD (family .fonts) (cond (eqb (fetchRefusal family place) 0) place 0) noFace
+      font = getD (family .fonts) (cond (eqb (fetchRefusal family place) 0) place 0) noFace;
     }

@@ -5,3 +5,5 @@ pub mod Order
 pub mod Packed
 pub mod Matching
 pub mod Family
+pub mod Synthesis
+pub mod Faces

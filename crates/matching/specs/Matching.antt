@@ -62,7 +62,7 @@ faceOf font =
       percent = wholePercent (font .attributes .width .ratio);
       style = styleNumber (font .attributes .style);
       weight = orderKey (font .attributes .weight .value);
-      slant = hasAxis font slnt
+      slant = hasAxis font slnt;
     }
 
 -- `noFace` stands for what lies past the array's end; nothing below reads there.
@@ -72,7 +72,7 @@ noFace =
       attributes = record { width = record { ratio = nan }; style = Normal; weight = record { value = nan } };
       axes = [];
       «axis_count» = 0;
-      «charmap_index» = record { «subtable_offset» = 0; «is_symbol» = false; «is_mac_roman» = false }
+      «charmap_index» = record { «subtable_offset» = 0; «is_symbol» = false; «is_mac_roman» = false };
     }
 
 -- past the count a family has no faces
@@ -92,7 +92,7 @@ requestOf a on =
       percent = wholePercent (a .width .ratio);
       style = styleNumber (a .style);
       weight = orderKey (a .weight .value);
-      synthesis = on
+      synthesis = on;
     }
 
 -- "Calls below the job, on a family or face by value, refuse 19 (over 64 faces or 16 axes), 24 (no such place) and 26 in that order". The numbers that 26 tests
@@ -119,7 +119,7 @@ matchFont fonts n a on =
 -- Demand 3's first half, of an answer.
 pub record Chosen (family : Family) (request : Request) (answer : Choice) : Type 0 where
   pub stands : (p : ℕ) → answer ≡ Place p
-    → (p < family .count) × ((j : ℕ) → j < family .count → (j ≡ p → ⊥) → standsBefore family request p j ≡ true)
+      → (p < family .count) × ((j : ℕ) → j < family .count → (j ≡ p → ⊥) → standsBefore family request p j ≡ true)
   pub none : answer ≡ Nothing → emptyCase family request ≡ true
   pub empty : emptyCase family request ≡ true → answer ≡ Nothing
 

@@ -4,15 +4,22 @@ ghost use Rattle.matching.specs.Matching.{axisCount, axisPlace, hasAxis}
 use font::font::FontInfo;
 
 pub const WDTH: u32 = 0x7764_7468;
+
 pub const WGHT: u32 = 0x7767_6874;
+
 pub const SLNT: u32 = 0x736C_6E74;
+
 pub const ITAL: u32 = 0x6974_616C;
 
 // How many axes a face has: at most 16.
 pub fn axis_count(font: FontInfo) -> usize
     ensures { λ r. ⌜ r ≡ axisCount font ⌝ }
 {
-    if font.axis_count < 16 { font.axis_count } else { 16 }
+    if font.axis_count < 16 {
+        font.axis_count
+    } else {
+        16
+    }
 }
 
 // The place of the first axis with the tag, or the count of axes where there is none.

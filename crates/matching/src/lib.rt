@@ -1,7 +1,9 @@
 // Matching: the order of faces, the choice, the equal list, the default, and synthesis.
-pub mod rank;
-pub mod order;
-pub mod stages;
 pub mod axes;
-pub mod matching;
+pub mod face;
 pub mod family;
+pub mod matching;
+pub mod order;
+pub mod rank;
+pub mod stages;
+pub mod synthesis;

@@ -4,6 +4,7 @@ ghost use Prim.Native.Nat.{_≤_, _<_};
 ghost use Rattle.matching.specs.Order.{choice, laidOut};
 ghost use mathlib.Core.Bool.{cond};
 ghost use lib.Dec.{eqb};
+ghost use Rattle.font.specs.Single.{orderKey};
 ghost use Rattle.matching.specs.Below.{placesBelow};
 ghost use Rattle.matching.specs.Matching.{styleNumber, familyOf, requestOf, attributesFrom, facesRefusal, familyRefusal, matchFont, Chosen, exactSame, equalList, defaultPlace};
 use crate::axes;
@@ -125,7 +126,14 @@ pub fn family_refusal(fonts: [FontInfo; 64], count: usize, attributes: Attribute
 }
 
 // The place that stands before every other.
-pub fn match_font(fonts: [FontInfo; 64], count: usize, width: FontWidth, style: FontStyle, weight: FontWeight, synthesize_style: bool) -> Choice
+pub fn match_font(
+    fonts: [FontInfo; 64],
+    count: usize,
+    width: FontWidth,
+    style: FontStyle,
+    weight: FontWeight,
+    synthesize_style: bool,
+) -> Choice
     ensures { λ r. ⌜ r ≡ matchFont fonts count (attributesFrom width style weight) «synthesize_style» ⌝ }
     ensures demand { λ r. ⌜ (familyRefusal fonts count (attributesFrom width style weight) ≡ 0 → 2 ≤ count → Chosen (familyOf fonts count) (requestOf (attributesFrom width style weight) «synthesize_style») r) ⌝ }
 {
@@ -145,6 +153,13 @@ pub fn match_font(fonts: [FontInfo; 64], count: usize, width: FontWidth, style: 
     Choice::Nothing
 }
 
+// The exact ratio as a number: not the whole percent.
+fn ratio_number(ratio: f32) -> u32
+    ensures { λ r. ⌜ r ≡ orderKey ratio ⌝ }
+{
+    single::order_number(ratio)
+}
+
 // The places whose ratio, style and weight equal those of a face of the family.
 fn equal_list(fonts: [FontInfo; 64], count: usize, chosen: usize) -> Places
     requires { ⌜ (count ≤ 64) × (chosen < count) ⌝ }
@@ -158,7 +173,7 @@ fn equal_list(fonts: [FontInfo; 64], count: usize, chosen: usize) -> Places
         let font = fonts[i];
         let attributes = font.attributes;
         let style = attributes.style;
-        ratios[i] = single::order_number(attributes.width.ratio);
+        ratios[i] = ratio_number(attributes.width.ratio);
         styles[i] = style_number(style);
         weights[i] = single::order_number(attributes.weight.value);
         i += 1;
@@ -167,7 +182,14 @@ fn equal_list(fonts: [FontInfo; 64], count: usize, chosen: usize) -> Places
 }
 
 // Every place whose exact ratio, style and weight equal the chosen face's, in place order.
-pub fn match_fonts(fonts: [FontInfo; 64], count: usize, width: FontWidth, style: FontStyle, weight: FontWeight, synthesize_style: bool) -> Matches
+pub fn match_fonts(
+    fonts: [FontInfo; 64],
+    count: usize,
+    width: FontWidth,
+    style: FontStyle,
+    weight: FontWeight,
+    synthesize_style: bool,
+) -> Matches
     ensures { λ r. ⌜ r ≡ equalList fonts count (matchFont fonts count (attributesFrom width style weight) «synthesize_style») ⌝ }
 {
     let best = match_font(fonts, count, width, style, weight, synthesize_style);
@@ -176,8 +198,14 @@ pub fn match_fonts(fonts: [FontInfo; 64], count: usize, width: FontWidth, style:
             let list = equal_list(fonts, count, place);
             Matches { refusal: 0, list }
         }
-        Choice::Nothing => Matches { refusal: 0, list: stages::none() },
-        Choice::Refused(refusal) => Matches { refusal, list: stages::none() },
+        Choice::Nothing => Matches {
+            refusal: 0,
+            list: stages::none(),
+        },
+        Choice::Refused(refusal) => Matches {
+            refusal,
+            list: stages::none(),
+        },
     }
 }
 

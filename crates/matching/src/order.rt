@@ -5,9 +5,13 @@ use crate::rank::Standing;
 
 // Order numbers, raised by 2^31: of the angles 0, 14 and -14, and of the weights 400 and 500.
 const ZERO_ANGLE: u32 = 0x8000_0000;
+
 const FOURTEEN: u32 = 0xC160_0000;
+
 const MINUS_FOURTEEN: u32 = 0x3EA0_0000;
+
 const FOUR_HUNDRED: u32 = 0xC3C8_0000;
+
 const FIVE_HUNDRED: u32 = 0xC3FA_0000;
 
 // A request: its whole percent, its style and weight as numbers, and whether synthesis is on.
@@ -133,18 +137,18 @@ fn left_standing(synthesis: bool, slant: bool, wanted: u32, style: u32) -> Stand
     if style < 2 {
         return other_standing(synthesis, slant, wanted, style);
     }
-    let angle = angle_of(style);
-    if angle <= wanted {
+    let lean = angle_of(style);
+    if lean <= wanted {
         if MINUS_FOURTEEN < wanted {
-            return Standing::Down(2, angle);
+            return Standing::Down(2, lean);
         }
-        return Standing::Down(1, angle);
+        return Standing::Down(1, lean);
     }
-    if angle < ZERO_ANGLE {
+    if lean < ZERO_ANGLE {
         if MINUS_FOURTEEN < wanted {
-            return Standing::Up(1, angle);
+            return Standing::Up(1, lean);
         }
-        return Standing::Up(2, angle);
+        return Standing::Up(2, lean);
     }
     other_standing(synthesis, slant, wanted, style)
 }

@@ -35,7 +35,11 @@ pub fn place_of(rank: u64) -> usize
     ensures { λ r. ⌜ r ≡ placeOf rank ⌝ }
 {
     let low = (rank % 64) as usize;
-    if (rank / 0x40_0000_0000) % 2 == 0 { low } else { 63 - low }
+    if (rank / 0x40_0000_0000) % 2 == 0 {
+        low
+    } else {
+        63 - low
+    }
 }
 
 // The lower of two ranks.

@@ -27,7 +27,10 @@ fn style_rank(width: bool, slant: bool, request: Request, style: u32, place: usi
     ensures { λ r. ⌜ (r ≡ cond width (packed (styleStanding (request .synthesis) slant (request .style) style) place) (2 ^ 64 - 1)) × (style < 2 ^ 32) ⌝ }
 {
     if width {
-        return rank::pack(order::style_standing(request.synthesis, slant, request.style, style), place);
+        return rank::pack(
+            order::style_standing(request.synthesis, slant, request.style, style),
+            place,
+        );
     }
     rank::NOWHERE
 }
@@ -59,6 +62,13 @@ fn width_stage(percents: &[u32; 64], count: usize, wanted: u32) -> u64
     best
 }
 
+// Whether both hold.
+fn both(a: bool, b: bool) -> bool
+    ensures { λ r. ⌜ r ≡ (a && b) ⌝ }
+{
+    if a { b } else { false }
+}
+
 // Whether a face of the percent has a slant axis.
 fn slant_at(percents: &[u32; 64], slants: &[bool; 64], count: usize, percent: u32) -> bool
     requires { ⌜ count ≤ 64 ⌝ }
@@ -66,10 +76,8 @@ fn slant_at(percents: &[u32; 64], slants: &[bool; 64], count: usize, percent: u3
 {
     let mut i: usize = 0;
     while i < count {
-        if percents[i] == percent {
-            if slants[i] {
-                return true;
-            }
+        if both(percents[i] == percent, slants[i]) {
+            return true;
         }
         i += 1;
     }
@@ -77,35 +85,69 @@ fn slant_at(percents: &[u32; 64], slants: &[bool; 64], count: usize, percent: u3
 }
 
 // The least rank in style among the faces of the percent.
-fn style_stage(percents: &[u32; 64], styles: &[u32; 64], count: usize, percent: u32, slant: bool, request: Request) -> u64
+fn style_stage(
+    percents: &[u32; 64],
+    styles: &[u32; 64],
+    count: usize,
+    percent: u32,
+    slant: bool,
+    request: Request,
+) -> u64
     requires { ⌜ count ≤ 64 ⌝ }
     ensures { λ r. ⌜ (r ≡ leastBelow (2 ^ 64 - 1) (λ i. cond (eqb (getD (now (percents .entry)) i 0) percent) (packed (styleStanding (request .synthesis) slant (request .style) (getD (now (styles .entry)) i 0)) i) (2 ^ 64 - 1)) count) × Short (now (styles .entry)) count ⌝ }
 {
     let mut best = rank::NOWHERE;
     let mut i: usize = 0;
     while i < count {
-        best = rank::lower(best, style_rank(percents[i] == percent, slant, request, styles[i], i));
+        best = rank::lower(
+            best,
+            style_rank(percents[i] == percent, slant, request, styles[i], i),
+        );
         i += 1;
     }
     best
 }
 
 // The least rank in weight among the faces of the percent and the style.
-fn weight_stage(percents: &[u32; 64], styles: &[u32; 64], weights: &[u32; 64], count: usize, percent: u32, style: u32, wanted: u32) -> u64
+fn weight_stage(
+    percents: &[u32; 64],
+    styles: &[u32; 64],
+    weights: &[u32; 64],
+    count: usize,
+    percent: u32,
+    style: u32,
+    wanted: u32,
+) -> u64
     requires { ⌜ count ≤ 64 ⌝ }
     ensures { λ r. ⌜ (r ≡ leastBelow (2 ^ 64 - 1) (λ i. cond (eqb (getD (now (percents .entry)) i 0) percent && eqb (getD (now (styles .entry)) i 0) style) (packed (weightStanding wanted (getD (now (weights .entry)) i 0)) i) (2 ^ 64 - 1)) count) × Short (now (weights .entry)) count ⌝ }
 {
     let mut best = rank::NOWHERE;
     let mut i: usize = 0;
     while i < count {
-        best = rank::lower(best, weight_rank(percents[i] == percent, styles[i] == style, wanted, weights[i], i));
+        best = rank::lower(
+            best,
+            weight_rank(
+                percents[i] == percent,
+                styles[i] == style,
+                wanted,
+                weights[i],
+                i,
+            ),
+        );
         i += 1;
     }
     best
 }
 
 // The chosen place, or the count where no face is chosen. The faces are given by an array for each number.
-pub fn choose(percents: &[u32; 64], styles: &[u32; 64], weights: &[u32; 64], slants: &[bool; 64], count: usize, request: Request) -> usize
+pub fn choose(
+    percents: &[u32; 64],
+    styles: &[u32; 64],
+    weights: &[u32; 64],
+    slants: &[bool; 64],
+    count: usize,
+    request: Request,
+) -> usize
     requires { ⌜ count ≤ 64 ⌝ }
     ensures { λ r. ⌜ r ≡ choice (familyOfLists (now (percents .entry)) (now (styles .entry)) (now (weights .entry)) (now (slants .entry)) count) request ⌝ }
 {
@@ -121,19 +163,15 @@ pub fn choose(percents: &[u32; 64], styles: &[u32; 64], weights: &[u32; 64], sla
     }
     let bearer = rank::place_of(best);
     let style = styles[bearer];
-    rank::place_of(weight_stage(percents, styles, weights, count, percent, style, request.weight))
-}
-
-// Whether all three hold.
-fn all(a: bool, b: bool, c: bool) -> bool
-    ensures { λ r. ⌜ r ≡ (a && (b && c)) ⌝ }
-{
-    if a {
-        if b {
-            return c;
-        }
-    }
-    false
+    rank::place_of(weight_stage(
+        percents,
+        styles,
+        weights,
+        count,
+        percent,
+        style,
+        request.weight,
+    ))
 }
 
 // Places of a family, in order. Those past the count are zero.
@@ -153,7 +191,13 @@ pub fn none() -> Places
 }
 
 // The places whose ratio, style and weight equal the chosen face's.
-pub fn equal_places(ratios: &[u32; 64], styles: &[u32; 64], weights: &[u32; 64], count: usize, chosen: usize) -> Places
+pub fn equal_places(
+    ratios: &[u32; 64],
+    styles: &[u32; 64],
+    weights: &[u32; 64],
+    count: usize,
+    chosen: usize,
+) -> Places
     requires { ⌜ (count ≤ 64) × (chosen < 64) ⌝ }
     ensures { λ r. ⌜ r ≡ laidOut (placesBelow (equalTo (now (ratios .entry)) (now (styles .entry)) (now (weights .entry)) chosen) count) ⌝ }
 {
@@ -164,7 +208,10 @@ pub fn equal_places(ratios: &[u32; 64], styles: &[u32; 64], weights: &[u32; 64],
     let mut found: usize = 0;
     let mut i: usize = 0;
     while i < count {
-        if all(ratios[i] == ratio, styles[i] == style, weights[i] == weight) {
+        if both(
+            ratios[i] == ratio,
+            both(styles[i] == style, weights[i] == weight),
+        ) {
             places[found] = i;
             found += 1;
         }

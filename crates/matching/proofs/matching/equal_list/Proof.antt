@@ -28,8 +28,8 @@ mul-font c = omega arith
 array-copy-out-font : tie.Need-array-copy-out-font Inv-loop μ-loop
 array-copy-out-font c = omega arith
 
-order-number-requires : tie.Need-order-number-requires Inv-loop μ-loop
-order-number-requires c κs = search needs
+ratio-number-requires : tie.Need-ratio-number-requires Inv-loop μ-loop
+ratio-number-requires c κs = search needs
 
 mul-ratios : tie.Need-mul-ratios Inv-loop μ-loop
 mul-ratios c = omega arith
@@ -46,8 +46,8 @@ mul-styles c = omega arith
 array-write-styles : tie.Need-array-write-styles Inv-loop μ-loop
 array-write-styles c = omega arith
 
-order-number-requires-2 : tie.Need-order-number-requires-2 Inv-loop μ-loop
-order-number-requires-2 c κs = search needs
+order-number-requires : tie.Need-order-number-requires Inv-loop μ-loop
+order-number-requires c κs = search needs
 
 mul-weights : tie.Need-mul-weights Inv-loop μ-loop
 mul-weights c = omega arith
@@ -62,12 +62,12 @@ loop-less : tie.Need-loop-less Inv-loop μ-loop
 loop-less c = omega arith
 
 loop-again : tie.Need-loop-again Inv-loop μ-loop
-loop-again c =
-    ( omega arith
-    , filled-more 0 (λ j. orderKey (getD (c .before .before .before .before .before .before .before .args .t1) j noFace .attributes .width .ratio)) (c .before .before .before .before .before .before .loop .ratios) (c .before .before .before .before .before .before .loop .i) (c .before .before .order-number .result) (c .before .before .before .before .before .before .loop .inv .1) (omega arith) (c .before .before .order-number .ensures)
-    , filled-more 0 (λ j. styleNumber (getD (c .before .before .before .before .before .before .before .args .t1) j noFace .attributes .style)) (c .before .before .before .before .before .before .loop .styles) (c .before .before .before .before .before .before .loop .i) (c .before .style-number .result) (c .before .before .before .before .before .before .loop .inv .2) (omega arith) (c .before .style-number .ensures)
-    , filled-more 0 (λ j. orderKey (getD (c .before .before .before .before .before .before .before .args .t1) j noFace .attributes .weight .value)) (c .before .before .before .before .before .before .loop .weights) (c .before .before .before .before .before .before .loop .i) (c .order-number2 .result) (c .before .before .before .before .before .before .loop .inv .3) (omega arith) (c .order-number2 .ensures)
-    )
+loop-again c = (
+  omega arith,
+  filled-more 0 (λ j. orderKey (getD (c .before .before .before .before .before .before .before .args .t1) j noFace .attributes .width .ratio)) (c .before .before .before .before .before .before .loop .ratios) (c .before .before .before .before .before .before .loop .i) (c .before .before .ratio-number .result) (c .before .before .before .before .before .before .loop .inv .1) (omega arith) (c .before .before .ratio-number .ensures),
+  filled-more 0 (λ j. styleNumber (getD (c .before .before .before .before .before .before .before .args .t1) j noFace .attributes .style)) (c .before .before .before .before .before .before .loop .styles) (c .before .before .before .before .before .before .loop .i) (c .before .style-number .result) (c .before .before .before .before .before .before .loop .inv .2) (omega arith) (c .before .style-number .ensures),
+  filled-more 0 (λ j. orderKey (getD (c .before .before .before .before .before .before .before .args .t1) j noFace .attributes .weight .value)) (c .before .before .before .before .before .before .loop .weights) (c .before .before .before .before .before .before .loop .i) (c .order-number .result) (c .before .before .before .before .before .before .loop .inv .3) (omega arith) (c .order-number .ensures),
+)
 
 equal-places-requires : tie.Need-equal-places-requires Inv-loop μ-loop
 equal-places-requires c κs = omega arith
@@ -76,11 +76,11 @@ returns : tie.Need-returns Inv-loop μ-loop
 returns c =
     c .equal-places .ensures
     ∙ ap laidOut
-      (list-same (c .before .before .before .before .before .before .args .t1) (c .before .before .before .before .before .before .args .count) (c .before .before .before .before .before .loop .ratios) (c .before .before .before .before .before .loop .styles) (c .before .before .before .before .before .loop .weights)
-      (subst (Filled 0 (λ j. orderKey (getD (c .before .before .before .before .before .before .args .t1) j noFace .attributes .width .ratio)) (c .before .before .before .before .before .loop .ratios)) end (c .before .before .before .before .before .loop .inv .1))
-      (subst (Filled 0 (λ j. styleNumber (getD (c .before .before .before .before .before .before .args .t1) j noFace .attributes .style)) (c .before .before .before .before .before .loop .styles)) end (c .before .before .before .before .before .loop .inv .2))
-      (subst (Filled 0 (λ j. orderKey (getD (c .before .before .before .before .before .before .args .t1) j noFace .attributes .weight .value)) (c .before .before .before .before .before .loop .weights)) end (c .before .before .before .before .before .loop .inv .3))
-      (c .before .before .before .before .before .before .args .chosen) (c .before .before .before .before .before .before .pre .1))
+    (list-same (c .before .before .before .before .before .before .args .t1) (c .before .before .before .before .before .before .args .count) (c .before .before .before .before .before .loop .ratios) (c .before .before .before .before .before .loop .styles) (c .before .before .before .before .before .loop .weights)
+    (subst (Filled 0 (λ j. orderKey (getD (c .before .before .before .before .before .before .args .t1) j noFace .attributes .width .ratio)) (c .before .before .before .before .before .loop .ratios)) end (c .before .before .before .before .before .loop .inv .1))
+    (subst (Filled 0 (λ j. styleNumber (getD (c .before .before .before .before .before .before .args .t1) j noFace .attributes .style)) (c .before .before .before .before .before .loop .styles)) end (c .before .before .before .before .before .loop .inv .2))
+    (subst (Filled 0 (λ j. orderKey (getD (c .before .before .before .before .before .before .args .t1) j noFace .attributes .weight .value)) (c .before .before .before .before .before .loop .weights)) end (c .before .before .before .before .before .loop .inv .3))
+    (c .before .before .before .before .before .before .args .chosen) (c .before .before .before .before .before .before .pre .1))
   where
     end : c .before .before .before .before .before .loop .i ≡ c .before .before .before .before .before .before .args .count
     end = omega arith
@@ -94,13 +94,13 @@ equal-list-spec =
     loop-holds
     mul-font
     array-copy-out-font
-    order-number-requires
+    ratio-number-requires
     mul-ratios
     array-write-ratios
     style-number-requires
     mul-styles
     array-write-styles
-    order-number-requires-2
+    order-number-requires
     mul-weights
     array-write-weights
     add-i

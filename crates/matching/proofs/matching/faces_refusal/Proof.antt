@@ -54,10 +54,11 @@ returns-2 : tie.Need-returns-2 Inv-loop μ-loop
 unfolding facesRefusal refusedAs
 returns-2 c =
     sym
-    (rw
-    ( le-ltb 64 (c .before .before .before .before .before .before .args .count) (c .before .before .before .before .before .if1 .left)
-    , some-at (refused (c .before .before .before .before .before .before .args .t1) 19) (c .before .before .before .before .before .before .args .count) (c .before .before .before .before .loop .i) (omega arith)
-      (eq-eqb _ 19 (sym (c .before .face-refusal .ensures) ∙ c .if2 .taken)) ))
+    (rw (
+      le-ltb 64 (c .before .before .before .before .before .before .args .count) (c .before .before .before .before .before .if1 .left),
+      some-at (refused (c .before .before .before .before .before .before .args .t1) 19) (c .before .before .before .before .before .before .args .count) (c .before .before .before .before .loop .i) (omega arith)
+          (eq-eqb _ 19 (sym (c .before .face-refusal .ensures) ∙ c .if2 .taken)),
+    ))
 
 either-refusal-requires : tie.Need-either-refusal-requires Inv-loop μ-loop
 either-refusal-requires c κs = search needs
@@ -69,15 +70,15 @@ loop-less : tie.Need-loop-less Inv-loop μ-loop
 loop-less c = omega arith
 
 loop-again : tie.Need-loop-again Inv-loop μ-loop
-loop-again c =
-    ( omega arith
-    , some-more (refused (c .before .before .before .before .before .before .before .args .t1) 19) (c .before .before .before .before .before .loop .i) (c .before .before .before .before .before .loop .inv .1)
-      (ne-eqb _ 19 (λ e. c .before .if2 .left (c .before .before .face-refusal .ensures ∙ e)))
-    , c .either-refusal .ensures
+loop-again c = (
+  omega arith,
+  some-more (refused (c .before .before .before .before .before .before .before .args .t1) 19) (c .before .before .before .before .before .loop .i) (c .before .before .before .before .before .loop .inv .1)
+      (ne-eqb _ 19 (λ e. c .before .if2 .left (c .before .before .face-refusal .ensures ∙ e))),
+  c .either-refusal .ensures
       ∙ (λ k. cond {A = ℕ} (eqb (c .before .before .face-refusal .ensures k) 26) 26 (c .before .before .before .before .before .loop .inv .2 k))
       ∙ step (some (refused (c .before .before .before .before .before .before .before .args .t1) 26) (c .before .before .before .before .before .loop .i)) (refused (c .before .before .before .before .before .before .before .args .t1) 26 (c .before .before .before .before .before .loop .i))
-      ∙ sym (ap (λ (b : Bool). cond {A = ℕ} b 26 0) (some-next (refused (c .before .before .before .before .before .before .before .args .t1) 26) (c .before .before .before .before .before .loop .i)))
-    )
+      ∙ sym (ap (λ (b : Bool). cond {A = ℕ} b 26 0) (some-next (refused (c .before .before .before .before .before .before .before .args .t1) 26) (c .before .before .before .before .before .loop .i))),
+)
 
 returns-3 : tie.Need-returns-3 Inv-loop μ-loop
 unfolding facesRefusal refusedAs
@@ -85,9 +86,10 @@ returns-3 c =
     c .before .loop .inv .2
     ∙ ap (λ (i : ℕ). cond {A = ℕ} (some (refused (c .before .before .before .args .t1) 26) i) 26 0) end
     ∙ sym
-      (rw
-      ( le-ltb 64 (c .before .before .before .args .count) (c .before .before .if1 .left)
-      , sym (ap (some (refused (c .before .before .before .args .t1) 19)) end) ∙ c .before .loop .inv .1 ))
+    (rw (
+      le-ltb 64 (c .before .before .before .args .count) (c .before .before .if1 .left),
+      sym (ap (some (refused (c .before .before .before .args .t1) 19)) end) ∙ c .before .loop .inv .1,
+    ))
   where
     end : c .before .loop .i ≡ c .before .before .before .args .count
     end = omega arith

@@ -96,13 +96,13 @@ loop-less c = omega arith
 -- src/matching.rt:38:5
 loop-again : tie.Need-loop-again Inv-loop μ-loop
 unfolding faceOf slnt
-loop-again c =
-    ( omega arith
-    , filled-more 0 (λ j. faceOf (getD (c .before .before .before .before .before .before .before .before .args .t1) j noFace) .percent) (c .before .before .before .before .before .before .before .loop .percents) (c .before .before .before .before .before .before .before .loop .i) (c .before .before .before .whole-percent .result) (c .before .before .before .before .before .before .before .loop .inv .1) (omega arith) (c .before .before .before .whole-percent .ensures)
-    , filled-more 0 (λ j. faceOf (getD (c .before .before .before .before .before .before .before .before .args .t1) j noFace) .style) (c .before .before .before .before .before .before .before .loop .styles) (c .before .before .before .before .before .before .before .loop .i) (c .before .before .style-number .result) (c .before .before .before .before .before .before .before .loop .inv .2) (omega arith) (c .before .before .style-number .ensures)
-    , filled-more 0 (λ j. faceOf (getD (c .before .before .before .before .before .before .before .before .args .t1) j noFace) .weight) (c .before .before .before .before .before .before .before .loop .weights) (c .before .before .before .before .before .before .before .loop .i) (c .before .order-number .result) (c .before .before .before .before .before .before .before .loop .inv .3) (omega arith) (c .before .order-number .ensures)
-    , filled-more false (λ j. faceOf (getD (c .before .before .before .before .before .before .before .before .args .t1) j noFace) .slant) (c .before .before .before .before .before .before .before .loop .slants) (c .before .before .before .before .before .before .before .loop .i) (c .has-axis .result) (c .before .before .before .before .before .before .before .loop .inv .4) (omega arith) (c .has-axis .ensures)
-    )
+loop-again c = (
+  omega arith,
+  filled-more 0 (λ j. faceOf (getD (c .before .before .before .before .before .before .before .before .args .t1) j noFace) .percent) (c .before .before .before .before .before .before .before .loop .percents) (c .before .before .before .before .before .before .before .loop .i) (c .before .before .before .whole-percent .result) (c .before .before .before .before .before .before .before .loop .inv .1) (omega arith) (c .before .before .before .whole-percent .ensures),
+  filled-more 0 (λ j. faceOf (getD (c .before .before .before .before .before .before .before .before .args .t1) j noFace) .style) (c .before .before .before .before .before .before .before .loop .styles) (c .before .before .before .before .before .before .before .loop .i) (c .before .before .style-number .result) (c .before .before .before .before .before .before .before .loop .inv .2) (omega arith) (c .before .before .style-number .ensures),
+  filled-more 0 (λ j. faceOf (getD (c .before .before .before .before .before .before .before .before .args .t1) j noFace) .weight) (c .before .before .before .before .before .before .before .loop .weights) (c .before .before .before .before .before .before .before .loop .i) (c .before .order-number .result) (c .before .before .before .before .before .before .before .loop .inv .3) (omega arith) (c .before .order-number .ensures),
+  filled-more false (λ j. faceOf (getD (c .before .before .before .before .before .before .before .before .args .t1) j noFace) .slant) (c .before .before .before .before .before .before .before .loop .slants) (c .before .before .before .before .before .before .before .loop .i) (c .has-axis .result) (c .before .before .before .before .before .before .before .loop .inv .4) (omega arith) (c .has-axis .ensures),
+)
 
 -- src/matching.rt:48:5
 choose-requires : tie.Need-choose-requires Inv-loop μ-loop
@@ -113,7 +113,7 @@ returns : tie.Need-returns Inv-loop μ-loop
 returns c =
     c .choose .ensures
     ∙ ap (λ (f : Family). choice f (c .before .before .before .before .before .before .before .args .request))
-      (family-same (c .before .before .before .before .before .before .before .args .t1) (c .before .before .before .before .before .before .before .args .count) (c .before .before .before .before .before .before .loop .percents) (c .before .before .before .before .before .before .loop .styles) (c .before .before .before .before .before .before .loop .weights) (c .before .before .before .before .before .before .loop .slants) (done .0) (done .1) (done .2) (done .3))
+    (family-same (c .before .before .before .before .before .before .before .args .t1) (c .before .before .before .before .before .before .before .args .count) (c .before .before .before .before .before .before .loop .percents) (c .before .before .before .before .before .before .loop .styles) (c .before .before .before .before .before .before .loop .weights) (c .before .before .before .before .before .before .loop .slants) (done .0) (done .1) (done .2) (done .3))
   where
     n : ℕ
     n = c .before .before .before .before .before .before .before .args .count
@@ -122,16 +122,16 @@ returns c =
     at-end = omega arith
 
     done :
-      Filled 0 (λ j. faceOf (getD (c .before .before .before .before .before .before .before .args .t1) j noFace) .percent) (c .before .before .before .before .before .before .loop .percents) n
-      × Filled 0 (λ j. faceOf (getD (c .before .before .before .before .before .before .before .args .t1) j noFace) .style) (c .before .before .before .before .before .before .loop .styles) n
-      × Filled 0 (λ j. faceOf (getD (c .before .before .before .before .before .before .before .args .t1) j noFace) .weight) (c .before .before .before .before .before .before .loop .weights) n
-      × Filled false (λ j. faceOf (getD (c .before .before .before .before .before .before .before .args .t1) j noFace) .slant) (c .before .before .before .before .before .before .loop .slants) n
-    done =
-        ( subst (λ (k : ℕ). Filled 0 (λ j. faceOf (getD (c .before .before .before .before .before .before .before .args .t1) j noFace) .percent) (c .before .before .before .before .before .before .loop .percents) k) at-end (c .before .before .before .before .before .before .loop .inv .1)
-        , subst (λ (k : ℕ). Filled 0 (λ j. faceOf (getD (c .before .before .before .before .before .before .before .args .t1) j noFace) .style) (c .before .before .before .before .before .before .loop .styles) k) at-end (c .before .before .before .before .before .before .loop .inv .2)
-        , subst (λ (k : ℕ). Filled 0 (λ j. faceOf (getD (c .before .before .before .before .before .before .before .args .t1) j noFace) .weight) (c .before .before .before .before .before .before .loop .weights) k) at-end (c .before .before .before .before .before .before .loop .inv .3)
-        , subst (λ (k : ℕ). Filled false (λ j. faceOf (getD (c .before .before .before .before .before .before .before .args .t1) j noFace) .slant) (c .before .before .before .before .before .before .loop .slants) k) at-end (c .before .before .before .before .before .before .loop .inv .4)
-        )
+        Filled 0 (λ j. faceOf (getD (c .before .before .before .before .before .before .before .args .t1) j noFace) .percent) (c .before .before .before .before .before .before .loop .percents) n
+        × Filled 0 (λ j. faceOf (getD (c .before .before .before .before .before .before .before .args .t1) j noFace) .style) (c .before .before .before .before .before .before .loop .styles) n
+        × Filled 0 (λ j. faceOf (getD (c .before .before .before .before .before .before .before .args .t1) j noFace) .weight) (c .before .before .before .before .before .before .loop .weights) n
+        × Filled false (λ j. faceOf (getD (c .before .before .before .before .before .before .before .args .t1) j noFace) .slant) (c .before .before .before .before .before .before .loop .slants) n
+    done = (
+      subst (λ (k : ℕ). Filled 0 (λ j. faceOf (getD (c .before .before .before .before .before .before .before .args .t1) j noFace) .percent) (c .before .before .before .before .before .before .loop .percents) k) at-end (c .before .before .before .before .before .before .loop .inv .1),
+      subst (λ (k : ℕ). Filled 0 (λ j. faceOf (getD (c .before .before .before .before .before .before .before .args .t1) j noFace) .style) (c .before .before .before .before .before .before .loop .styles) k) at-end (c .before .before .before .before .before .before .loop .inv .2),
+      subst (λ (k : ℕ). Filled 0 (λ j. faceOf (getD (c .before .before .before .before .before .before .before .args .t1) j noFace) .weight) (c .before .before .before .before .before .before .loop .weights) k) at-end (c .before .before .before .before .before .before .loop .inv .3),
+      subst (λ (k : ℕ). Filled false (λ j. faceOf (getD (c .before .before .before .before .before .before .before .args .t1) j noFace) .slant) (c .before .before .before .before .before .before .loop .slants) k) at-end (c .before .before .before .before .before .before .loop .inv .4),
+    )
 
 pub place-for-spec : {M : Type 1} → statement M
 place-for-spec =

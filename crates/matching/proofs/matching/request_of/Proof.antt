@@ -1,4 +1,3 @@
-
 use Rattle.matching.specs.Matching.{requestOf}
 use borrow.Author.Needs.{needs}
 use Rattle.matching.proofs.matching.request_of.Statement.{statement}

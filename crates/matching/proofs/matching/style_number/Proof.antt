@@ -44,8 +44,8 @@ unfolding styleNumber
 returns-4 c =
     c .order-number .ensures
     ∙ sym
-      (ap styleNumber (c .before .before .before .before .before .style .given .1)
-      ∙ ap (λ (a : Angle). styleNumber (Oblique a)) (c .before .before .angle .given .1))
+    (ap styleNumber (c .before .before .before .before .before .style .given .1)
+    ∙ ap (λ (a : Angle). styleNumber (Oblique a)) (c .before .before .angle .given .1))
 
 pub style-number-spec : {M : Type 1} → statement M
 style-number-spec =

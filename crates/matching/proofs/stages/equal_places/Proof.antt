@@ -2,7 +2,9 @@ use Prim.Native.Nat.{ℕ, _-_, _≤_}
 use mathlib.Core.Path.{_≡_, refl, sym, _∙_, ap}
 use mathlib.Core.Logic.{⊎-elim}
 use native.Mathlib.Omega.{arith}
-use lib.ListN.{length, set}
+use mathlib.Core.Bool.{Bool, _&&_}
+use lib.Dec.{eqb}
+use lib.ListN.{length, set, getD}
 use borrow.Author.Needs.{needs}
 use denote.Ref.{now}
 use Rattle.matching.specs.Below.{placesBelow}
@@ -43,26 +45,29 @@ loop-holds : tie.Need-loop-holds Inv-loop μ-loop
 unfolding placesBelow padded
 loop-holds c = (omega arith, refl, refl, omega arith)
 
-mul-all : tie.Need-mul-all Inv-loop μ-loop
-mul-all c = omega arith
+mul-both : tie.Need-mul-both Inv-loop μ-loop
+mul-both c = omega arith
 
-element-copy-out-all : tie.Need-element-copy-out-all Inv-loop μ-loop
-element-copy-out-all c = omega arith
+element-copy-out-both : tie.Need-element-copy-out-both Inv-loop μ-loop
+element-copy-out-both c = omega arith
 
-mul-all-2 : tie.Need-mul-all-2 Inv-loop μ-loop
-mul-all-2 c = omega arith
+mul-both-2 : tie.Need-mul-both-2 Inv-loop μ-loop
+mul-both-2 c = omega arith
 
-element-copy-out-all-2 : tie.Need-element-copy-out-all-2 Inv-loop μ-loop
-element-copy-out-all-2 c = omega arith
+element-copy-out-both-2 : tie.Need-element-copy-out-both-2 Inv-loop μ-loop
+element-copy-out-both-2 c = omega arith
 
-mul-all-3 : tie.Need-mul-all-3 Inv-loop μ-loop
-mul-all-3 c = omega arith
+mul-both-3 : tie.Need-mul-both-3 Inv-loop μ-loop
+mul-both-3 c = omega arith
 
-element-copy-out-all-3 : tie.Need-element-copy-out-all-3 Inv-loop μ-loop
-element-copy-out-all-3 c = omega arith
+element-copy-out-both-3 : tie.Need-element-copy-out-both-3 Inv-loop μ-loop
+element-copy-out-both-3 c = omega arith
 
-all-requires : tie.Need-all-requires Inv-loop μ-loop
-all-requires c κs = search needs
+both-requires : tie.Need-both-requires Inv-loop μ-loop
+both-requires c κs = search needs
+
+both-requires-2 : tie.Need-both-requires-2 Inv-loop μ-loop
+both-requires-2 c κs = search needs
 
 mul-places : tie.Need-mul-places Inv-loop μ-loop
 mul-places c = omega arith
@@ -83,9 +88,12 @@ loop-again : tie.Need-loop-again Inv-loop μ-loop
 unfolding equalTo
 loop-again c =
     ⊎-elim
-    (λ w. let r = grown (equalTo (now (c .before .before .before .before .before .before .before .before .before .before .args .ratios)) (now (c .before .before .before .before .before .before .before .before .before .before .args .styles)) (now (c .before .before .before .before .before .before .before .before .before .before .args .weights)) (c .before .before .before .before .before .before .before .before .before .before .args .chosen)) (c .before .before .before .before .before .before .loop .i) (c .before .before .before .before .before .before .loop .places) (c .before .before .before .before .before .before .loop .found) (c .before .before .before .before .before .before .loop .inv .1) (c .before .before .before .before .before .before .loop .inv .2) (c .before .before .before .before .before .before .loop .inv .3) (c .if1 .places) (c .if1 .found) (omega arith) (sym (c .before .all .ensures) ∙ w .0 .taken) (w .1) (w .2) in (omega arith, r .0, r .1, r .2))
-    (λ w. let r = kept (equalTo (now (c .before .before .before .before .before .before .before .before .before .before .args .ratios)) (now (c .before .before .before .before .before .before .before .before .before .before .args .styles)) (now (c .before .before .before .before .before .before .before .before .before .before .args .weights)) (c .before .before .before .before .before .before .before .before .before .before .args .chosen)) (c .before .before .before .before .before .before .loop .i) (c .before .before .before .before .before .before .loop .places) (c .before .before .before .before .before .before .loop .found) (c .before .before .before .before .before .before .loop .inv .1) (c .before .before .before .before .before .before .loop .inv .2) (c .before .before .before .before .before .before .loop .inv .3) (c .if1 .places) (c .if1 .found) (sym (c .before .all .ensures) ∙ w .0 .left) (w .1) (w .2) in (omega arith, r .0, r .1, r .2))
+    (λ w. let r = grown (equalTo (now (c .before .before .before .before .before .before .before .before .before .before .before .args .ratios)) (now (c .before .before .before .before .before .before .before .before .before .before .before .args .styles)) (now (c .before .before .before .before .before .before .before .before .before .before .before .args .weights)) (c .before .before .before .before .before .before .before .before .before .before .before .args .chosen)) (c .before .before .before .before .before .before .before .loop .i) (c .before .before .before .before .before .before .before .loop .places) (c .before .before .before .before .before .before .before .loop .found) (c .before .before .before .before .before .before .before .loop .inv .1) (c .before .before .before .before .before .before .before .loop .inv .2) (c .before .before .before .before .before .before .before .loop .inv .3) (c .if1 .places) (c .if1 .found) (omega arith) (sym same ∙ w .0 .taken) (w .1) (w .2) in (omega arith, r .0, r .1, r .2))
+    (λ w. let r = kept (equalTo (now (c .before .before .before .before .before .before .before .before .before .before .before .args .ratios)) (now (c .before .before .before .before .before .before .before .before .before .before .before .args .styles)) (now (c .before .before .before .before .before .before .before .before .before .before .before .args .weights)) (c .before .before .before .before .before .before .before .before .before .before .before .args .chosen)) (c .before .before .before .before .before .before .before .loop .i) (c .before .before .before .before .before .before .before .loop .places) (c .before .before .before .before .before .before .before .loop .found) (c .before .before .before .before .before .before .before .loop .inv .1) (c .before .before .before .before .before .before .before .loop .inv .2) (c .before .before .before .before .before .before .before .loop .inv .3) (c .if1 .places) (c .if1 .found) (sym same ∙ w .0 .left) (w .1) (w .2) in (omega arith, r .0, r .1, r .2))
     (c .if1 .came)
+  where
+    same : c .before .both2 .result ≡ equalTo (now (c .before .before .before .before .before .before .before .before .before .before .before .args .ratios)) (now (c .before .before .before .before .before .before .before .before .before .before .before .args .styles)) (now (c .before .before .before .before .before .before .before .before .before .before .before .args .weights)) (c .before .before .before .before .before .before .before .before .before .before .before .args .chosen) (c .before .before .before .before .before .before .before .loop .i)
+    same = c .before .both2 .ensures ∙ ap (λ (b : Bool). eqb (getD (now (c .before .before .before .before .before .before .before .before .before .before .before .args .ratios)) (c .before .before .before .before .before .before .before .loop .i) 0) (getD (now (c .before .before .before .before .before .before .before .before .before .before .before .args .ratios)) (c .before .before .before .before .before .before .before .before .before .before .before .args .chosen) 0) && b) (c .before .before .both .ensures)
 
 returns : tie.Need-returns Inv-loop μ-loop
 unfolding laidOut
@@ -106,13 +114,14 @@ equal-places-spec =
     mul-weight
     element-copy-out-weight
     loop-holds
-    mul-all
-    element-copy-out-all
-    mul-all-2
-    element-copy-out-all-2
-    mul-all-3
-    element-copy-out-all-3
-    all-requires
+    mul-both
+    element-copy-out-both
+    mul-both-2
+    element-copy-out-both-2
+    mul-both-3
+    element-copy-out-both-3
+    both-requires
+    both-requires-2
     mul-places
     array-write-places
     add-found

@@ -3,7 +3,6 @@ use Prim.Native.Nat.{_-_, _^_}
 use mathlib.Core.Path.{ap, _∙_}
 use mathlib.Core.Bool.{cond}
 use Rattle.matching.specs.Packed.{packed}
-
 use borrow.Author.Needs.{needs}
 use Rattle.matching.proofs.stages.style_rank.Statement.{statement}
 use Rattle.matching.proofs.stages.style_rank.Tie as tie

@@ -1,5 +1,4 @@
 use native.Mathlib.Omega.{arith}
-
 use borrow.Author.Needs.{needs}
 use Rattle.matching.proofs.stages.weight_rank.Statement.{statement}
 use Rattle.matching.proofs.stages.weight_rank.Tie as tie

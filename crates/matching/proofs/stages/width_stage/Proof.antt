@@ -50,17 +50,17 @@ loop-less : tie.Need-loop-less Inv-loop μ-loop
 loop-less c = omega arith
 
 loop-again : tie.Need-loop-again Inv-loop μ-loop
-loop-again c =
-    ( omega arith
-    , least-more (2 ^ 64 - 1) (ranks (now (c .before .before .before .before .before .args .percents)) (c .before .before .before .before .before .args .wanted)) (c .before .before .before .before .loop .i) (c .before .before .before .before .loop .inv .1) (c .before .width-rank .ensures .0) (c .lower .ensures)
-    , below-more _ _ (c .before .before .before .before .loop .inv .2) (c .before .width-rank .ensures .1)
-    )
+loop-again c = (
+  omega arith,
+  least-more (2 ^ 64 - 1) (ranks (now (c .before .before .before .before .before .args .percents)) (c .before .before .before .before .before .args .wanted)) (c .before .before .before .before .loop .i) (c .before .before .before .before .loop .inv .1) (c .before .width-rank .ensures .0) (c .lower .ensures),
+  below-more _ _ (c .before .before .before .before .loop .inv .2) (c .before .width-rank .ensures .1),
+)
 
 returns : tie.Need-returns Inv-loop μ-loop
-returns c =
-    ( c .before .loop .inv .1 ∙ ap (leastBelow (2 ^ 64 - 1) (ranks (now (c .before .before .args .percents)) (c .before .before .args .wanted))) (omega arith)
-    , λ j h. c .before .loop .inv .2 j (omega arith)
-    )
+returns c = (
+  c .before .loop .inv .1 ∙ ap (leastBelow (2 ^ 64 - 1) (ranks (now (c .before .before .args .percents)) (c .before .before .args .wanted))) (omega arith),
+  λ j h. c .before .loop .inv .2 j (omega arith),
+)
 
 pub width-stage-spec : {M : Type 1} → statement M
 width-stage-spec =

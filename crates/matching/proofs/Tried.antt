@@ -1,0 +1,49 @@
+-- Section 7's thirteen items, proved together by computing the definitions.
+use mathlib.Core.Path.{_≡_, refl, sym, _∙_}
+use mathlib.Core.Bool.{false}
+use lib.IntN.{pos, negsuc}
+use lib.Ieee.{fin, ofInt, round, add, sum, mul, lt, neg, toBits, isNan, toUnsigned, toSigned}
+use Rattle.font.specs.First.{first}
+use Rattle.font.specs.Single.{single, orderKey, keyOfBits, wholePercent, fixedToSingle}
+use Rattle.matching.specs.Rank.{lower, before, grouped}
+use Rattle.matching.specs.Below.{some, every, last}
+use Rattle.matching.specs.Order.{zeroAngle, fourteen, minusFourteen, fourHundred, fiveHundred, angle, oblique, widthStanding, normalStanding, italicStanding, otherStanding, rightStanding, leftStanding, styleStanding, weightStanding, samePercent, bears, slantAt, inWidth, inStyle, inWeight, bearerOf, bearer, hasGroup, widthBefore, styleBefore, weightBefore, standsBefore, standsFirst, choice}
+use Rattle.matching.specs.Matching.{styleNumber, axisAt, axisCount, axisPlace, hasAxis, slnt, faceOf, blank, familyOf, requestOf}
+use Rattle.matching.specs.Synthesis.{emboldened, degreesOf, leansRight, obliqueSkew, skewOf}
+use Rattle.matching.specs.Faces.{fraction, minusFraction, attributesAt, faceWith, weighing, wide, styled, slanting, stated, chosenOf, forWeight, forWidth, forStyle, fixed, FacesToTry}
+
+-- item 12's numbers, each computed by itself
+nearest-1 : fixedToSingle 16777217 ≡ fin false 1 (pos 8)
+unfolding fixedToSingle round
+nearest-1 = refl
+
+whole-1 : single 256 ≡ fin false 1 (pos 8)
+unfolding single ofInt round
+whole-1 = refl
+
+nearest-2 : fixedToSingle 16777219 ≡ fin false 4194305 (negsuc 13)
+unfolding fixedToSingle round
+nearest-2 = refl
+
+whole-2 : fraction 16777220 65536 ≡ fin false 4194305 (negsuc 13)
+unfolding fraction round
+whole-2 = refl
+
+pub tried : FacesToTry
+unfolding single ofInt round add sum mul lt neg toBits isNan toUnsigned toSigned orderKey keyOfBits wholePercent first lower before grouped some every last zeroAngle fourteen minusFourteen fourHundred fiveHundred angle oblique widthStanding normalStanding italicStanding otherStanding rightStanding leftStanding styleStanding weightStanding samePercent bears slantAt inWidth inStyle inWeight bearerOf bearer hasGroup widthBefore styleBefore weightBefore standsBefore standsFirst choice styleNumber axisAt axisCount axisPlace hasAxis slnt faceOf blank familyOf requestOf emboldened degreesOf leansRight obliqueSkew skewOf fraction minusFraction attributesAt faceWith weighing wide styled slanting stated chosenOf forWeight forWidth forStyle fixed
+tried =
+    record {
+      item1 = λ on. refl;
+      item2 = λ on. refl;
+      item3 = λ on. refl;
+      item4 = λ on. refl;
+      item5 = λ on. (refl, refl);
+      item6 = λ on. (refl, refl);
+      item7 = λ on. (refl, refl);
+      item8 = (refl, refl, refl, refl);
+      item9 = λ on. refl;
+      item10 = (refl, refl);
+      item11 = (refl, refl, refl, refl);
+      item12 = (nearest-1 ∙ sym whole-1, nearest-2 ∙ sym whole-2);
+      item13 = (refl, refl);
+    }
