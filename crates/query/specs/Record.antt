@@ -7,6 +7,7 @@ use lib.IntN.{ℤ, pos, negsuc}
 use lib.Ieee.{Float, nan, binary32, toBits, isNan}
 use lib.ListN.{getD}
 use Rattle.font.specs.declared.charmap.CharmapIndex.{CharmapIndex}
+use Rattle.matching.specs.declared.synthesis.Synthesis.{Synthesis}
 use Rattle.query.specs.declared.offers.Offer.{Offer}
 
 -- fields of 2 and 4 bytes, and a flag of one
@@ -46,7 +47,8 @@ unfoldable pub indexBytes : CharmapIndex → List ℕ
 indexBytes index =
     word (index .«subtable_offset») ++ (flag (index .«is_symbol») ∷ flag (index .«is_mac_roman») ∷ 0 ∷ 0 ∷ [])
 
-unfoldable pub recordBytes : Offer → Bool → ℤ → ℕ → List ℕ → List Float → CharmapIndex → List ℕ
-recordBytes offer embolden skew count tags values index =
-    headBytes offer embolden skew count
-    ++ (slotAt count tags values 0 ++ (slotAt count tags values 1 ++ (slotAt count tags values 2 ++ indexBytes index)))
+unfoldable pub recordBytes : Offer → Synthesis → CharmapIndex → List ℕ
+recordBytes offer s index =
+    headBytes offer (s .embolden) (s .skew) (s .len)
+    ++ (slotAt (s .len) (s .tags) (s .values) 0
+    ++ (slotAt (s .len) (s .tags) (s .values) 1 ++ (slotAt (s .len) (s .tags) (s .values) 2 ++ indexBytes index)))

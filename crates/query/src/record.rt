@@ -6,6 +6,7 @@ ghost use lib.ListN.{length, take};
 ghost use Rattle.query.specs.Record.{half, word, flag, twosComplement, valueBits, headBytes, slotBytes, indexBytes, recordBytes};
 use crate::offers::Offer;
 use font::charmap::CharmapIndex;
+use matching::synthesis::Synthesis;
 
 // Each of the functions that put bytes at a position leaves those before it as they are.
 fn put_byte(out: &mut [u8], at: usize, x: u8)
@@ -95,12 +96,15 @@ fn put_index(out: &mut [u8], index: CharmapIndex)
     put_half(&mut *out, 38, 0);
 }
 
-// The record of an offer, with its settings, of which the first `count` are used.
-pub fn write_record(out: &mut [u8], offer: Offer, embolden: bool, skew: i8, count: u8, tags: &[u32; 3], values: &[f32; 3], index: CharmapIndex)
+// The record of an offer. A slot past the count of settings is zero.
+pub fn write_record(out: &mut [u8], offer: Offer, synthesis: Synthesis, index: CharmapIndex)
     requires { ⌜ (length (now out) ≡ 40) × (index .«subtable_offset» < 2 ^ 32) ⌝ }
-    ensures { λ _. ⌜ now (out .exit) ≡ recordBytes offer embolden skew count (now (tags .entry)) (now (values .entry)) index ⌝ }
+    ensures { λ _. ⌜ now (out .exit) ≡ recordBytes offer synthesis index ⌝ }
 {
-    put_head(&mut *out, offer, embolden, skew, count);
+    let count = synthesis.len;
+    let tags = synthesis.tags;
+    let values = synthesis.values;
+    put_head(&mut *out, offer, synthesis.embolden, synthesis.skew, count);
     put_slot(&mut *out, 8, 0 < count, tags[0], values[0]);
     put_slot(&mut *out, 16, 1 < count, tags[1], values[1]);
     put_slot(&mut *out, 24, 2 < count, tags[2], values[2]);
