@@ -2,7 +2,7 @@
 use Prim.Native.Nat.{ℕ, zero, suc, _-_, _≤_, _<_}
 use mathlib.Core.Path.{_≡_, refl, sym, _∙_, ap}
 use mathlib.Core.Bool.{Bool, true, false, not, cond}
-use mathlib.Core.List.{List, [], _∷_, _++_}
+use mathlib.Core.List.{[], _∷_}
 use native.Mathlib.Omega.{arith}
 use borrow.Author.Tests.{lt-ltb, le-ltb}
 use Rattle.matching.specs.declared.order.Request.{Request}
@@ -57,7 +57,7 @@ after group chosen (Left k) = pick Place Left (defaultOffers group chosen) k
 
 module _ (group : Group) (request : Request) (n chosen : ℕ) (chosen-is : chosen ≡ choice (group .family) request) where
   pub after-equal : (r : FamilyOffer) → r ≡ pick Place Left (placesBelow (heldEqual group chosen) (group .family .count)) n
-    → after group chosen r ≡ pick Place Left (familyOffers group request) n
+      → after group chosen r ≡ pick Place Left (familyOffers group request) n
   unfolding familyOffers
   after-equal r e =
       rw (← chosen-is)

@@ -8,3 +8,4 @@ pub mod Written
 pub mod Signs
 pub mod Run
 pub mod Listed
+pub mod Tried

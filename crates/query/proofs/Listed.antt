@@ -6,7 +6,7 @@ use mathlib.Core.Bool.{Bool, true, false, not, _&&_, cond}
 use mathlib.Core.List.{List, [], _∷_, _++_, map}
 use native.Mathlib.Omega.{arith}
 use lib.Dec.{ltb}
-use lib.ListN.{length, getD, take, length-take, length-append, length-map, List·getD-append, List·getD-map}
+use lib.ListN.{length, getD, take, length-take, length-append, List·getD-append}
 use lib.Seq.{getD-append-add, getD-take}
 use borrow.Author.Tests.{lt-ltb, ltb-true, ltb-false}
 use Rattle.matching.specs.declared.order.Request.{Request}
@@ -121,7 +121,7 @@ module _ (faces : Faces) (families : Families) (request : Request) where
   number-sound f = go (ltb f (families .count)) refl
     where
       go : (b : Bool) → ltb f (families .count) ≡ b
-        → Each (λ p. Sound (offerOf f p)) 0 (cond b (familyOffers (groupOf faces (families .members f)) request) [])
+          → Each (λ p. Sound (offerOf f p)) 0 (cond b (familyOffers (groupOf faces (families .members f)) request) [])
       go true t k l =
           let h = family-held (groupOf faces (families .members f)) request k l in
           let i : getD (familyOffers (groupOf faces (families .members f)) request) k 0 < length (families .members f) = in-group (families .members f) _ (h .0) in
@@ -137,7 +137,7 @@ module _ (faces : Faces) (families : Families) (request : Request) where
       (turns-sound fs)
 
   pub offers-sound : (most : ℕ) (named fallbacks : List ℕ) (k : ℕ) → k < length (offers faces families request most named fallbacks)
-    → Sound (getD (offers faces families request most named fallbacks) k (offerOf 0 0))
+      → Sound (getD (offers faces families request most named fallbacks) k (offerOf 0 0))
   unfolding offers
   offers-sound most named fallbacks =
       each-take Sound (offerOf 0 0) most (inTurn faces families request (named ++ fallbacks)) (turns-sound (named ++ fallbacks))

@@ -1,5 +1,5 @@
 -- Laws of `pick`, the n-th of a list or how far past its end n lies.
-use Prim.Native.Nat.{ℕ, zero, suc, _+_, _-_, _≤_, _<_}
+use Prim.Native.Nat.{ℕ, zero, suc, _+_, _-_, _<_}
 use mathlib.Core.Path.{_≡_, refl, sym, _∙_, ap}
 use mathlib.Core.Bool.{Bool, true, false, cond}
 use mathlib.Core.List.{List, [], _∷_, _++_, map}
@@ -11,14 +11,14 @@ use Rattle.query.specs.Offers.{pick}
 
 -- what is done with the answer can be done with each of its cases
 pub pick-then : {A B C : Type 0} (g : B → C) (found : A → B) (past : ℕ → B) (xs : List A) (n : ℕ)
-  → g (pick found past xs n) ≡ pick (λ x. g (found x)) (λ k. g (past k)) xs n
+    → g (pick found past xs n) ≡ pick (λ x. g (found x)) (λ k. g (past k)) xs n
 unfolding pick
 pick-then g found past [] n = refl
 pick-then g found past (x ∷ xs) zero = refl
 pick-then g found past (x ∷ xs) (suc n) = pick-then g found past xs n
 
 pub pick-map : {A B C : Type 0} (found : B → C) (past : ℕ → C) (h : A → B) (xs : List A) (n : ℕ)
-  → pick found past (map h xs) n ≡ pick (λ x. found (h x)) past xs n
+    → pick found past (map h xs) n ≡ pick (λ x. found (h x)) past xs n
 unfolding pick
 pick-map found past h [] n = refl
 pick-map found past h (x ∷ xs) zero = refl

@@ -1,8 +1,8 @@
 -- Laws of `placesBelow`, for a loop that counts those it meets.
-use Prim.Native.Nat.{ℕ, zero, suc, _+_, _≤_, _<_}
-use mathlib.Core.Path.{_≡_, refl, sym, _∙_, ap}
+use Prim.Native.Nat.{ℕ, suc, _+_, _≤_, _<_}
+use mathlib.Core.Path.{_≡_, _∙_}
 use mathlib.Core.Bool.{Bool, true, false, cond}
-use mathlib.Core.List.{List, [], _∷_, _++_}
+use mathlib.Core.List.{[], _∷_}
 use native.Mathlib.Omega.{arith}
 use native.Mathlib.Decide.{le-ind}
 use native.Mathlib.Numerals.{add-one}
@@ -39,7 +39,7 @@ module _ (p : ℕ → Bool) where
             ∙ pick-past found (pick found past (i ∷ [])) (placesBelow p i) (length (placesBelow p i)) 0 (omega arith))
 
         step : (m : ℕ) → suc i ≤ m → Kept m → Kept (suc m)
-        step m g k =
-            ( omega (arith, length-append (placesBelow p m) (cond (p m) (m ∷ []) []), k .0)
-            , pick-kept found past (placesBelow p m) (cond (p m) (m ∷ []) []) (length (placesBelow p i)) (k .0) ∙ k .1
-            )
+        step m g k = (
+          omega (arith, length-append (placesBelow p m) (cond (p m) (m ∷ []) []), k .0),
+          pick-kept found past (placesBelow p m) (cond (p m) (m ∷ []) []) (length (placesBelow p i)) (k .0) ∙ k .1,
+        )

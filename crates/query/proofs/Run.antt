@@ -1,14 +1,14 @@
 -- Demand 3: a fresh cursor that is stepped n times gives the first n offers of the list, in order, and then "past the list" each time.
 use Prim.Native.Nat.{ℕ, zero, suc, _+_, _-_, _^_, _≤_, _<_}
 use mathlib.Core.Path.{_≡_, refl, sym, _∙_, ap}
-use mathlib.Core.Bool.{Bool, true, false, _&&_, cond}
+use mathlib.Core.Bool.{Bool, true, false}
 use mathlib.Core.List.{List, [], _∷_, _++_, map}
 use native.Mathlib.Omega.{arith}
 use native.Mathlib.Numerals.{add-one}
 use lib.Dec.{ltb}
 use lib.ListN.{length, getD, take, drop, replicate, drop-of-length-le}
 use lib.Seq.{drop-cons}
-use borrow.Author.Tests.{lt-ltb, le-ltb, ltb-true, ltb-false}
+use borrow.Author.Tests.{lt-ltb, ltb-true, ltb-false}
 use Rattle.query.specs.declared.cursor.Cursor.{Cursor}
 use Rattle.query.specs.Offers.{pick}
 use Rattle.query.specs.Cursor.{fresh, after, answer, run}
@@ -16,9 +16,9 @@ use Rattle.query.proofs.Picked.{pick-in, pick-past}
 
 -- The answers are those of the offer call over inputs that are not refused: the offer of the number, as `offer` says it, or `past`.
 module _ {A O : Type 0} (answers : ℕ → ℕ → A) (found : A → Bool) (offer : O → A) (past : A) (none : O) (list : List O) (request : ℕ)
-         (is : (k : ℕ) → answers request k ≡ pick offer (λ j. past) list k)
-         (offer-found : (o : O) → found (offer o) ≡ true) (past-found : found past ≡ false)
-         (short : length list < 2 ^ 32) where
+    (is : (k : ℕ) → answers request k ≡ pick offer (λ j. past) list k)
+    (offer-found : (o : O) → found (offer o) ≡ true) (past-found : found past ≡ false)
+    (short : length list < 2 ^ 32) where
   -- the cursor whose next number is k
   abbrev at : ℕ → Cursor
   at k = record { request = request; next = k }
@@ -54,8 +54,8 @@ module _ {A O : Type 0} (answers : ℕ → ℕ → A) (found : A → Bool) (offe
   from (suc n) k = go (ltb k (length list)) refl (λ j. from n j)
     where
       go : (b : Bool) → ltb k (length list) ≡ b
-        → ((j : ℕ) → run answers found n (at j) ≡ map offer (take n (drop j list)) ++ replicate (n - (length list - j)) past)
-        → run answers found (suc n) (at k) ≡ map offer (take (suc n) (drop k list)) ++ replicate (suc n - (length list - k)) past
+          → ((j : ℕ) → run answers found n (at j) ≡ map offer (take n (drop j list)) ++ replicate (n - (length list - j)) past)
+          → run answers found (suc n) (at k) ≡ map offer (take (suc n) (drop k list)) ++ replicate (suc n - (length list - k)) past
       go true t rest =
           let l : k < length list = ltb-true k (length list) t in
           let e : n - (length list - (k + 1)) ≡ suc n - (length list - k) = omega arith in

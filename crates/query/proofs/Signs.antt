@@ -1,14 +1,14 @@
 -- The two's complement of a signed number of 8 bits, as the code works it out: 256 more where it is below zero, in 16 bits.
-use Prim.Native.Nat.{ℕ, suc, _+_, _-_, _^_, _≤_, _<_}
+use Prim.Native.Nat.{suc, _+_, _-_, _<_}
 use mathlib.Core.Path.{_≡_, refl, sym, _∙_, ap, subst}
-use mathlib.Core.Bool.{Bool, true, false, cond}
+use mathlib.Core.Bool.{true, false, cond}
 use native.Mathlib.Omega.{arith}
-use lib.Dec.{T, ltb}
+use lib.Dec.{T}
 use lib.IntN.{ℤ, pos, negsuc, natAbs, _+ℤ_}
 use lib.Signed.{nonNeg, ltZ}
 use mir.Syntax.{w8, w16}
 use mir.Val.{Fits, SFits, toZ, ofZ}
-use mir.Facts.{toZ-pos, toZ-ofZ, sfits-widen}
+use mir.Facts.{toZ-ofZ, sfits-widen}
 use borrow.Author.Tests.{le-ltb, ltb-true}
 use Rattle.query.specs.Record.{twosComplement}
 
@@ -57,7 +57,7 @@ itself (pos n) f h = ((tt, record { fits = omega (arith, f .sfits) }), refl)
 itself (negsuc n) f h = absurd (subst T h tt)
 
 pub not-below : (x : ℤ) → SFits w8 x → ltZ (toZ w8 (ofZ w8 x)) (pos 0) ≡ false
-  → (T (nonNeg (toZ w8 (ofZ w8 x))) × Fits w8 (natAbs (toZ w8 (ofZ w8 x)))) × (natAbs (toZ w8 (ofZ w8 x)) ≡ twosComplement x)
+    → (T (nonNeg (toZ w8 (ofZ w8 x))) × Fits w8 (natAbs (toZ w8 (ofZ w8 x)))) × (natAbs (toZ w8 (ofZ w8 x)) ≡ twosComplement x)
 not-below x f h =
     subst (λ z. (T (nonNeg z) × Fits w8 (natAbs z)) × (natAbs z ≡ twosComplement x)) (sym (toZ-ofZ f))
     (itself x f (ap (λ z. ltZ z (pos 0)) (sym (toZ-ofZ f)) ∙ h))

@@ -1,11 +1,9 @@
 -- Families in turn: what follows the answer of one family, and of the list of families.
-use Prim.Native.Nat.{ℕ, suc, _+_, _≤_, _<_}
+use Prim.Native.Nat.{ℕ, _+_, _≤_, _<_}
 use mathlib.Core.Path.{_≡_, refl, sym, _∙_, ap}
-use mathlib.Core.Bool.{Bool, true, false, cond}
 use mathlib.Core.List.{List, [], _∷_, _++_, map, append-assoc}
-use native.Mathlib.Omega.{arith}
 use native.Mathlib.Numerals.{add-one}
-use lib.ListN.{length, getD, take, drop, drop-of-length-le}
+use lib.ListN.{length, getD, drop, drop-of-length-le}
 use lib.Seq.{drop-cons}
 use borrow.Author.Tests.{lt-ltb, le-ltb}
 use Rattle.matching.specs.declared.order.Request.{Request}
@@ -27,7 +25,7 @@ module _ (faces : Faces) (families : Families) (request : Request) where
   unknown f n l = rw (le-ltb f (families .count) l) refl
 
   pub known : (f n : ℕ) (members : List ℕ) → f < families .count → members ≡ families .members f
-    → pick Family'.Place Family'.Left (familyOffers (groupOf faces members) request) n ≡ pick Family'.Place Family'.Left (numberOffers faces families request f) n
+      → pick Family'.Place Family'.Left (familyOffers (groupOf faces members) request) n ≡ pick Family'.Place Family'.Left (numberOffers faces families request f) n
   unfolding numberOffers
   known f n members l e = rw (lt-ltb f (families .count) l, e) refl
 
@@ -45,8 +43,8 @@ module _ (faces : Faces) (families : Families) (request : Request) where
 
   -- the number at place k of a list, with those after it
   pub one-more : (numbers : List ℕ) (k f n : ℕ) (r : FamilyOffer) → k < length numbers → f ≡ getD numbers k 0
-    → r ≡ pick Family'.Place Family'.Left (numberOffers faces families request f) n
-    → turns (drop k numbers) n ≡ after-one f (drop (k + 1) numbers) r
+      → r ≡ pick Family'.Place Family'.Left (numberOffers faces families request f) n
+      → turns (drop k numbers) n ≡ after-one f (drop (k + 1) numbers) r
   one-more numbers k f n r l e h =
       ap (λ s. turns s n) (drop-cons numbers k 0 l ∙ rw (e, add-one k) refl)
       ∙ sym (one f (drop (k + 1) numbers) n)
@@ -79,12 +77,12 @@ module _ (faces : Faces) (families : Families) (request : Request) where
       sym (pick-take Offered'.At Offered'.Past most (inTurn faces families request (named ++ fallbacks)) n ∙ rw (le-ltb n most l) refl)
 
   pub not-cut : (most : ℕ) (named fallbacks : List ℕ) (n : ℕ) → n < most
-    → after-named fallbacks (turns named n) ≡ offerAt (offers faces families request most named fallbacks) n
+      → after-named fallbacks (turns named n) ≡ offerAt (offers faces families request most named fallbacks) n
   unfolding offers offerAt
   not-cut most named fallbacks n l =
       pick-then (after-named fallbacks) List'.At List'.Left (inTurn faces families request named) n
       ∙ ap (λ (past : ℕ → Offered). pick Offered'.At past (inTurn faces families request named) n)
-        (λ i k. pick-then after-all List'.At List'.Left (inTurn faces families request fallbacks) k i)
+      (λ i k. pick-then after-all List'.At List'.Left (inTurn faces families request fallbacks) k i)
       ∙ sym (pick-append Offered'.At (λ k. Offered'.Past) (inTurn faces families request named) (inTurn faces families request fallbacks) n)
       ∙ ap (λ s. pick Offered'.At (λ k. Offered'.Past) s n) (sym (joined named fallbacks))
       ∙ sym (pick-take Offered'.At Offered'.Past most (inTurn faces families request (named ++ fallbacks)) n ∙ rw (lt-ltb n most l) refl)

@@ -98,12 +98,12 @@ unfoldable pub groupOf : Faces → List ℕ → Group
 groupOf faces members =
     record {
       family =
-        record {
-          count = length members;
-          face = λ i. cond (ltb i (length members)) (faces .face (getD members i 0)) blank
-        };
+          record {
+            count = length members;
+            face = λ i. cond (ltb i (length members)) (faces .face (getD members i 0)) blank;
+          };
       ratio = λ i. cond (ltb i (length members)) (faces .ratio (getD members i 0)) 0;
-      held = λ i. cond (ltb i (length members)) (faces .held (getD members i 0)) false
+      held = λ i. cond (ltb i (length members)) (faces .held (getD members i 0)) false;
     }
 
 -- The families of a job: the face numbers of each. Only the numbers below the count are of families of the job.

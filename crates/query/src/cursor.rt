@@ -24,10 +24,7 @@ impl Cursor {
     pub fn new(request: u32) -> Self
         ensures { λ r. ⌜ r ≡ fresh request ⌝ }
     {
-        Self {
-            request,
-            next: 0,
-        }
+        Self { request, next: 0 }
     }
 
     // One further where there was an offer.
@@ -44,12 +41,40 @@ impl Cursor {
     }
 
     // The next offer of the request whose lists of family numbers begin at a position of the job.
-    pub fn step(mut self, job: &[u8], at: usize, most: usize, family_at: &[u32; 64], families: usize, percents: &[u32; 256], styles: &[u32; 256], weights: &[u32; 256], ratios: &[u32; 256], slants: &[bool; 256], held: &[bool; 256], request: Request) -> Step
+    pub fn step(
+        mut self,
+        job: &[u8],
+        at: usize,
+        most: usize,
+        family_at: &[u32; 64],
+        families: usize,
+        percents: &[u32; 256],
+        styles: &[u32; 256],
+        weights: &[u32; 256],
+        ratios: &[u32; 256],
+        slants: &[bool; 256],
+        held: &[bool; 256],
+        request: Request,
+    ) -> Step
         requires { ⌜ (at < length (now job)) × (fallbacksAt (now job) at < length (now job)) × Small (now job) (now «family_at») families ⌝ }
         ensures { λ r. ⌜ r ≡ stepped (offers (facesOfLists (now (percents .entry)) (now (styles .entry)) (now (weights .entry)) (now (ratios .entry)) (now (slants .entry)) (now (held .entry))) (familiesAt (now (job .entry)) (now («family_at» .entry)) families) request most (listAt (now (job .entry)) at) (listAt (now (job .entry)) (fallbacksAt (now (job .entry)) at))) self ⌝ }
     {
         let number = self.next as usize;
-        let offered = offers::request_offer(job, at, most, family_at, families, percents, styles, weights, ratios, slants, held, request, number);
+        let offered = offers::request_offer(
+            job,
+            at,
+            most,
+            family_at,
+            families,
+            percents,
+            styles,
+            weights,
+            ratios,
+            slants,
+            held,
+            request,
+            number,
+        );
         match offered {
             Offered::At(offer) => {
                 self = self.after(true);

@@ -1,4 +1,4 @@
 // Jobs and offers.
+pub mod cursor;
 pub mod offers;
 pub mod record;
-pub mod cursor;

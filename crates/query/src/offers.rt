@@ -39,16 +39,37 @@ pub enum Offered {
 }
 
 // The place of a family's default.
-fn default_place(percents: &[u32; 64], styles: &[u32; 64], weights: &[u32; 64], slants: &[bool; 64], count: usize) -> usize
+fn default_place(
+    percents: &[u32; 64],
+    styles: &[u32; 64],
+    weights: &[u32; 64],
+    slants: &[bool; 64],
+    count: usize,
+) -> usize
     requires { ⌜ count ≤ 64 ⌝ }
     ensures { λ r. ⌜ r ≡ defaultPlace (familyOfLists (now (percents .entry)) (now (styles .entry)) (now (weights .entry)) (now (slants .entry)) count) ⌝ }
 {
-    let place = stages::choose(percents, styles, weights, slants, count, request_of(Attributes::DEFAULT, false));
+    let place = stages::choose(
+        percents,
+        styles,
+        weights,
+        slants,
+        count,
+        request_of(Attributes::DEFAULT, false),
+    );
     if place < count { place } else { 0 }
 }
 
 // Whether the face at a place is held and has the ratio, style and weight of the chosen one. None has where none is chosen.
-fn held_equal(ratios: &[u32; 64], styles: &[u32; 64], weights: &[u32; 64], held: &[bool; 64], count: usize, chosen: usize, i: usize) -> bool
+fn held_equal(
+    ratios: &[u32; 64],
+    styles: &[u32; 64],
+    weights: &[u32; 64],
+    held: &[bool; 64],
+    count: usize,
+    chosen: usize,
+    i: usize,
+) -> bool
     requires { ⌜ (count ≤ 64) × (i < 64) ⌝ }
     ensures { λ r. ⌜ r ≡ ltb chosen count && (getD (now (held .entry)) i false && equalFaces (λ j. getD (now (ratios .entry)) j 0) (λ j. getD (now (styles .entry)) j 0) (λ j. getD (now (weights .entry)) j 0) chosen i) ⌝ }
 {
@@ -66,7 +87,15 @@ fn held_equal(ratios: &[u32; 64], styles: &[u32; 64], weights: &[u32; 64], held:
 }
 
 // The n-th of the held faces that equal the chosen one.
-fn equal_offer(ratios: &[u32; 64], styles: &[u32; 64], weights: &[u32; 64], held: &[bool; 64], count: usize, chosen: usize, n: usize) -> FamilyOffer
+fn equal_offer(
+    ratios: &[u32; 64],
+    styles: &[u32; 64],
+    weights: &[u32; 64],
+    held: &[bool; 64],
+    count: usize,
+    chosen: usize,
+    n: usize,
+) -> FamilyOffer
     requires { ⌜ count ≤ 64 ⌝ }
     ensures { λ r. ⌜ r ≡ pick FamilyOffer.Place FamilyOffer.Left (placesBelow (λ i. ltb chosen count && (getD (now (held .entry)) i false && equalFaces (λ j. getD (now (ratios .entry)) j 0) (λ j. getD (now (styles .entry)) j 0) (λ j. getD (now (weights .entry)) j 0) chosen i)) count) n ⌝ }
 {
@@ -85,7 +114,17 @@ fn equal_offer(ratios: &[u32; 64], styles: &[u32; 64], weights: &[u32; 64], held
 }
 
 // The held default, unless it is among the held equal faces.
-fn default_offer(percents: &[u32; 64], styles: &[u32; 64], weights: &[u32; 64], ratios: &[u32; 64], slants: &[bool; 64], held: &[bool; 64], count: usize, chosen: usize, n: usize) -> FamilyOffer
+fn default_offer(
+    percents: &[u32; 64],
+    styles: &[u32; 64],
+    weights: &[u32; 64],
+    ratios: &[u32; 64],
+    slants: &[bool; 64],
+    held: &[bool; 64],
+    count: usize,
+    chosen: usize,
+    n: usize,
+) -> FamilyOffer
     requires { ⌜ count ≤ 64 ⌝ }
     ensures { λ r. ⌜ r ≡ pick FamilyOffer.Place FamilyOffer.Left (defaultOffers (groupOfLists (now (percents .entry)) (now (styles .entry)) (now (weights .entry)) (now (ratios .entry)) (now (slants .entry)) (now (held .entry)) count) chosen) n ⌝ }
 {
@@ -106,19 +145,51 @@ fn default_offer(percents: &[u32; 64], styles: &[u32; 64], weights: &[u32; 64], 
 }
 
 // The n-th offer of a family of at most 64 faces, given by an array for each number.
-pub fn family_offer(percents: &[u32; 64], styles: &[u32; 64], weights: &[u32; 64], ratios: &[u32; 64], slants: &[bool; 64], held: &[bool; 64], count: usize, request: Request, n: usize) -> FamilyOffer
+pub fn family_offer(
+    percents: &[u32; 64],
+    styles: &[u32; 64],
+    weights: &[u32; 64],
+    ratios: &[u32; 64],
+    slants: &[bool; 64],
+    held: &[bool; 64],
+    count: usize,
+    request: Request,
+    n: usize,
+) -> FamilyOffer
     requires { ⌜ count ≤ 64 ⌝ }
     ensures { λ r. ⌜ r ≡ pick FamilyOffer.Place FamilyOffer.Left (familyOffers (groupOfLists (now (percents .entry)) (now (styles .entry)) (now (weights .entry)) (now (ratios .entry)) (now (slants .entry)) (now (held .entry)) count) request) n ⌝ }
 {
     let chosen = stages::choose(percents, styles, weights, slants, count, request);
     match equal_offer(ratios, styles, weights, held, count, chosen, n) {
         FamilyOffer::Place(place) => FamilyOffer::Place(place),
-        FamilyOffer::Left(left) => default_offer(percents, styles, weights, ratios, slants, held, count, chosen, left),
+        FamilyOffer::Left(left) => default_offer(
+            percents,
+            styles,
+            weights,
+            ratios,
+            slants,
+            held,
+            count,
+            chosen,
+            left,
+        ),
     }
 }
 
 // The n-th offer of the family whose face numbers stand at a position of the job. The other arrays have a number for each face of the job.
-fn members_offer(job: &[u8], at: usize, count: usize, percents: &[u32; 256], styles: &[u32; 256], weights: &[u32; 256], ratios: &[u32; 256], slants: &[bool; 256], held: &[bool; 256], request: Request, n: usize) -> FamilyOffer
+fn members_offer(
+    job: &[u8],
+    at: usize,
+    count: usize,
+    percents: &[u32; 256],
+    styles: &[u32; 256],
+    weights: &[u32; 256],
+    ratios: &[u32; 256],
+    slants: &[bool; 256],
+    held: &[bool; 256],
+    request: Request,
+    n: usize,
+) -> FamilyOffer
     requires { ⌜ (at < 2 ^ 33) × (count ≤ 64) × ((i : ℕ) → i < count → u16At (now job) (at + 2 * i) < 256) ⌝ }
     ensures { λ r. ⌜ r ≡ pick FamilyOffer.Place FamilyOffer.Left (familyOffers (groupOf (facesOfLists (now (percents .entry)) (now (styles .entry)) (now (weights .entry)) (now (ratios .entry)) (now (slants .entry)) (now (held .entry))) (numbersAt (now (job .entry)) at count)) request) n ⌝ }
 {
@@ -139,7 +210,17 @@ fn members_offer(job: &[u8], at: usize, count: usize, percents: &[u32; 256], sty
         is_held[i] = held[face];
         i += 1;
     }
-    family_offer(&percent, &style, &weight, &ratio, &slant, &is_held, count, request, n)
+    family_offer(
+        &percent,
+        &style,
+        &weight,
+        &ratio,
+        &slant,
+        &is_held,
+        count,
+        request,
+        n,
+    )
 }
 
 // A 32-bit number, which its own type bounds.
@@ -150,7 +231,20 @@ fn wide(x: u32) -> usize
 }
 
 // The n-th offer of the family of a number. An unknown number has none.
-fn number_offer(job: &[u8], family_at: &[u32; 64], families: usize, percents: &[u32; 256], styles: &[u32; 256], weights: &[u32; 256], ratios: &[u32; 256], slants: &[bool; 256], held: &[bool; 256], request: Request, family: u16, n: usize) -> FamilyOffer
+fn number_offer(
+    job: &[u8],
+    family_at: &[u32; 64],
+    families: usize,
+    percents: &[u32; 256],
+    styles: &[u32; 256],
+    weights: &[u32; 256],
+    ratios: &[u32; 256],
+    slants: &[bool; 256],
+    held: &[bool; 256],
+    request: Request,
+    family: u16,
+    n: usize,
+) -> FamilyOffer
     requires { ⌜ Small (now job) (now «family_at») families ⌝ }
     ensures { λ r. ⌜ r ≡ pick FamilyOffer.Place FamilyOffer.Left (numberOffers (facesOfLists (now (percents .entry)) (now (styles .entry)) (now (weights .entry)) (now (ratios .entry)) (now (slants .entry)) (now (held .entry))) (familiesAt (now (job .entry)) (now («family_at» .entry)) families) request family) n ⌝ }
 {
@@ -160,11 +254,36 @@ fn number_offer(job: &[u8], family_at: &[u32; 64], families: usize, percents: &[
     }
     let at = wide(family_at[number]);
     let count = tables::u16_at(job, at) as usize;
-    members_offer(job, at + 2, count, percents, styles, weights, ratios, slants, held, request, n)
+    members_offer(
+        job,
+        at + 2,
+        count,
+        percents,
+        styles,
+        weights,
+        ratios,
+        slants,
+        held,
+        request,
+        n,
+    )
 }
 
 // The n-th offer of a list of family numbers, which begins with a byte count.
-fn list_offer(job: &[u8], at: usize, family_at: &[u32; 64], families: usize, percents: &[u32; 256], styles: &[u32; 256], weights: &[u32; 256], ratios: &[u32; 256], slants: &[bool; 256], held: &[bool; 256], request: Request, n: usize) -> ListOffer
+fn list_offer(
+    job: &[u8],
+    at: usize,
+    family_at: &[u32; 64],
+    families: usize,
+    percents: &[u32; 256],
+    styles: &[u32; 256],
+    weights: &[u32; 256],
+    ratios: &[u32; 256],
+    slants: &[bool; 256],
+    held: &[bool; 256],
+    request: Request,
+    n: usize,
+) -> ListOffer
     requires { ⌜ (at < length (now job)) × Small (now job) (now «family_at») families ⌝ }
     ensures { λ r. ⌜ r ≡ pick ListOffer.At ListOffer.Left (inTurn (facesOfLists (now (percents .entry)) (now (styles .entry)) (now (weights .entry)) (now (ratios .entry)) (now (slants .entry)) (now (held .entry))) (familiesAt (now (job .entry)) (now («family_at» .entry)) families) request (listAt (now (job .entry)) at)) n ⌝ }
 {
@@ -173,7 +292,20 @@ fn list_offer(job: &[u8], at: usize, family_at: &[u32; 64], families: usize, per
     let mut k: usize = 0;
     while k < count {
         let family = tables::u16_at(job, at + 1 + 2 * k);
-        match number_offer(job, family_at, families, percents, styles, weights, ratios, slants, held, request, family, left) {
+        match number_offer(
+            job,
+            family_at,
+            families,
+            percents,
+            styles,
+            weights,
+            ratios,
+            slants,
+            held,
+            request,
+            family,
+            left,
+        ) {
             FamilyOffer::Place(place) => {
                 return ListOffer::At(Offer { family, place });
             }
@@ -187,7 +319,21 @@ fn list_offer(job: &[u8], at: usize, family_at: &[u32; 64], families: usize, per
 }
 
 // The n-th offer of a request whose two lists of family numbers begin at a position of the job.
-pub fn request_offer(job: &[u8], at: usize, most: usize, family_at: &[u32; 64], families: usize, percents: &[u32; 256], styles: &[u32; 256], weights: &[u32; 256], ratios: &[u32; 256], slants: &[bool; 256], held: &[bool; 256], request: Request, n: usize) -> Offered
+pub fn request_offer(
+    job: &[u8],
+    at: usize,
+    most: usize,
+    family_at: &[u32; 64],
+    families: usize,
+    percents: &[u32; 256],
+    styles: &[u32; 256],
+    weights: &[u32; 256],
+    ratios: &[u32; 256],
+    slants: &[bool; 256],
+    held: &[bool; 256],
+    request: Request,
+    n: usize,
+) -> Offered
     requires { ⌜ (at < length (now job)) × (fallbacksAt (now job) at < length (now job)) × Small (now job) (now «family_at») families ⌝ }
     ensures { λ r. ⌜ r ≡ offerAt (offers (facesOfLists (now (percents .entry)) (now (styles .entry)) (now (weights .entry)) (now (ratios .entry)) (now (slants .entry)) (now (held .entry))) (familiesAt (now (job .entry)) (now («family_at» .entry)) families) request most (listAt (now (job .entry)) at) (listAt (now (job .entry)) (fallbacksAt (now (job .entry)) at))) n ⌝ }
 {
@@ -195,9 +341,35 @@ pub fn request_offer(job: &[u8], at: usize, most: usize, family_at: &[u32; 64], 
         return Offered::Past;
     }
     let fallbacks = at + 1 + 2 * (job[at] as usize);
-    match list_offer(job, at, family_at, families, percents, styles, weights, ratios, slants, held, request, n) {
+    match list_offer(
+        job,
+        at,
+        family_at,
+        families,
+        percents,
+        styles,
+        weights,
+        ratios,
+        slants,
+        held,
+        request,
+        n,
+    ) {
         ListOffer::At(offer) => Offered::At(offer),
-        ListOffer::Left(left) => match list_offer(job, fallbacks, family_at, families, percents, styles, weights, ratios, slants, held, request, left) {
+        ListOffer::Left(left) => match list_offer(
+            job,
+            fallbacks,
+            family_at,
+            families,
+            percents,
+            styles,
+            weights,
+            ratios,
+            slants,
+            held,
+            request,
+            left,
+        ) {
             ListOffer::At(offer) => Offered::At(offer),
             ListOffer::Left(_) => Offered::Past,
         },

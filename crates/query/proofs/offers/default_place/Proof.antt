@@ -1,7 +1,6 @@
-use mathlib.Core.Path.{_≡_, refl, _∙_, sym, ap}
+-- `query::offers::default_place` meets its contract: the choice for default attributes, or 0. Assumes nothing.
+use mathlib.Core.Path.{refl, _∙_, sym, ap}
 use borrow.Author.Tests.{lt-ltb, le-ltb}
-use denote.Ref.{now}
-use Rattle.matching.specs.declared.order.Request.{Request}
 use Rattle.matching.specs.Order.{choice, familyOfLists}
 use Rattle.font.specs.Attributes.{defaultAttributes}
 use Rattle.font.specs.Single.{single}
@@ -10,27 +9,19 @@ use Rattle.query.specs.Offers.{orFirst, defaultPlace}
 use borrow.Author.Needs.{needs}
 use Rattle.query.proofs.offers.default_place.Statement.{statement}
 use Rattle.query.proofs.offers.default_place.Tie as tie
-use Rattle.query.proofs.offers.default_place.Reads as reads
-use Rattle.query.proofs.offers.default_place.Lts as lts
-use Rattle.matching.proofs.stages.choose.Reads as choose-reads
-use Rattle.matching.proofs.matching.request_of.Reads as request-of-reads
 
--- src/offers.rt:55:74
 request-of-requires : tie.Need-request-of-requires
 request-of-requires c κs = search needs
 
--- src/offers.rt:55:9
 choose-requires : tie.Need-choose-requires
 choose-requires c κs = search needs
 
--- src/offers.rt:51:1
 returns : tie.Need-returns
 unfolding defaultPlace orFirst familyOfLists defaultAttributes single ofInt round ofBits
 returns c =
     let e = c .before .choose .ensures ∙ ap (choice _) (c .before .before .request-of .ensures) in
     sym (rw (sym e, lt-ltb _ _ (c .if1 .taken)) refl)
 
--- src/offers.rt:51:1
 returns-2 : tie.Need-returns-2
 unfolding defaultPlace orFirst familyOfLists defaultAttributes single ofInt round ofBits
 returns-2 c =

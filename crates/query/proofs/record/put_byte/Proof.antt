@@ -1,4 +1,5 @@
-use mathlib.Core.Path.{_≡_, _∙_, ap}
+-- `query::record::put_byte` meets its contract: a store at the position. Assumes nothing.
+use mathlib.Core.Path.{_∙_, ap}
 use native.Mathlib.Numerals.{add-one}
 use native.Mathlib.Omega.{arith}
 use lib.ListN.{set, take}
@@ -7,18 +8,13 @@ use denote.Ref.{now}
 use borrow.Author.Needs.{needs}
 use Rattle.query.proofs.record.put_byte.Statement.{statement}
 use Rattle.query.proofs.record.put_byte.Tie as tie
-use Rattle.query.proofs.record.put_byte.Reads as reads
-use Rattle.query.proofs.record.put_byte.Lts as lts
 
--- src/record.rt:15:5
 slice-write-out : tie.Need-slice-write-out
 slice-write-out c = search needs
 
--- src/record.rt:11:1
 same-length : tie.Need-same-length
 same-length c = search needs
 
--- src/record.rt:11:1
 returns : tie.Need-returns
 returns c = ap (λ n. take n (set (now (c .args .out)) (c .args .at) (c .args .x))) (add-one (c .args .at)) ∙ take-suc-set (now (c .args .out)) (c .args .at) (c .args .x) (omega arith)
 

@@ -1,3 +1,4 @@
+-- `query::record::put_half` meets its contract: one byte after the other. Assumes nothing.
 use mathlib.Core.Path.{refl}
 use Prim.Native.Nat.{_+_}
 use native.Mathlib.Omega.{arith}
@@ -8,35 +9,25 @@ use Rattle.query.proofs.Written.{then-put}
 use borrow.Author.Needs.{needs}
 use Rattle.query.proofs.record.put_half.Statement.{statement}
 use Rattle.query.proofs.record.put_half.Tie as tie
-use Rattle.query.proofs.record.put_half.Reads as reads
-use Rattle.query.proofs.record.put_half.Lts as lts
-use Rattle.query.proofs.record.put_byte.Reads as put-byte-reads
 
--- src/record.rt:22:29
 cast-put-byte : tie.Need-cast-put-byte
 cast-put-byte c = search needs
 
--- src/record.rt:22:5
 put-byte-requires : tie.Need-put-byte-requires
 put-byte-requires c κs = search needs
 
--- src/record.rt:23:25
 add-put-byte : tie.Need-add-put-byte
 add-put-byte c = search needs
 
--- src/record.rt:23:33
 cast-put-byte-2 : tie.Need-cast-put-byte-2
 cast-put-byte-2 c = search needs
 
--- src/record.rt:23:5
 put-byte-requires-2 : tie.Need-put-byte-requires-2
 put-byte-requires-2 c κs = search needs
 
--- src/record.rt:18:1
 same-length : tie.Need-same-length
 same-length c = search needs
 
--- src/record.rt:18:1
 returns : tie.Need-returns
 unfolding half
 returns c = then-put (take (c .before .before .before .before .before .before .before .before .before .args .at) (now (c .before .before .before .before .before .before .before .before .before .args .out))) _ _ _ _ _ (c .before .before .before .before .before .before .before .before .before .args .at + 1) (c .before .before .before .before .before .before .before .before .before .args .at + 1 + 1) (c .before .before .before .before .before .before .before .before .before .args .at + 2) (omega arith) (c .before .before .before .before .before .before .put-byte .ensures) (c .before .before .put-byte2 .ensures) refl

@@ -1,55 +1,40 @@
+-- `query::record::put_head` meets its contract: one field after the other. Assumes nothing.
 use mir.Facts.{toZ-ofZ}
-use mathlib.Core.Path.{_≡_, refl, _∙_, ap}
-use mathlib.Core.List.{List, [], _∷_}
+use mathlib.Core.Path.{refl, _∙_, ap}
+use mathlib.Core.List.{[], _∷_}
 use Rattle.query.specs.Record.{half, twosComplement, headBytes}
 use Rattle.query.proofs.Written.{put-on}
 use borrow.Author.Needs.{needs}
 use Rattle.query.proofs.record.put_head.Statement.{statement}
 use Rattle.query.proofs.record.put_head.Tie as tie
-use Rattle.query.proofs.record.put_head.Reads as reads
-use Rattle.query.proofs.record.put_head.Lts as lts
-use Rattle.query.proofs.record.flag.Reads as flag-reads
-use Rattle.query.proofs.record.put_byte.Reads as put-byte-reads
-use Rattle.query.proofs.record.put_half.Reads as put-half-reads
-use Rattle.query.proofs.record.twos_complement.Reads as twos-complement-reads
 
--- src/record.rt:65:5
 put-half-requires : tie.Need-put-half-requires
 put-half-requires c κs = search needs
 
--- src/record.rt:66:5
 put-half-requires-2 : tie.Need-put-half-requires-2
 put-half-requires-2 c κs = search needs
 
--- src/record.rt:67:28
 flag-requires : tie.Need-flag-requires
 flag-requires c κs = search needs
 
--- src/record.rt:67:5
 put-byte-requires : tie.Need-put-byte-requires
 put-byte-requires c κs = search needs
 
--- src/record.rt:68:28
 twos-complement-requires : tie.Need-twos-complement-requires
 twos-complement-requires c κs = search needs
 
--- src/record.rt:68:5
 put-byte-requires-2 : tie.Need-put-byte-requires-2
 put-byte-requires-2 c κs = search needs
 
--- src/record.rt:69:5
 put-byte-requires-3 : tie.Need-put-byte-requires-3
 put-byte-requires-3 c κs = search needs
 
--- src/record.rt:70:5
 put-byte-requires-4 : tie.Need-put-byte-requires-4
 put-byte-requires-4 c κs = search needs
 
--- src/record.rt:61:1
 same-length : tie.Need-same-length
 same-length c = search needs
 
--- src/record.rt:61:1
 returns : tie.Need-returns
 unfolding half headBytes
 returns c =

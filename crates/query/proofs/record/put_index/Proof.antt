@@ -1,52 +1,36 @@
-use mathlib.Core.Path.{_≡_, refl, _∙_, ap}
-use mathlib.Core.List.{List, [], _∷_, append-assoc}
-use lib.ListN.{take}
-use denote.Ref.{now}
-use Rattle.query.specs.Record.{half, word, indexBytes}
+-- `query::record::put_index` meets its contract: one field after the other. Assumes nothing.
+use mathlib.Core.Path.{refl, _∙_, ap}
+use mathlib.Core.List.{[], _∷_, append-assoc}
+use Rattle.query.specs.Record.{half, indexBytes}
 use Rattle.query.proofs.Written.{put-on}
 use borrow.Author.Needs.{needs}
 use Rattle.query.proofs.record.put_index.Statement.{statement}
 use Rattle.query.proofs.record.put_index.Tie as tie
-use Rattle.query.proofs.record.put_index.Reads as reads
-use Rattle.query.proofs.record.put_index.Lts as lts
-use Rattle.query.proofs.record.flag.Reads as flag-reads
-use Rattle.query.proofs.record.put_byte.Reads as put-byte-reads
-use Rattle.query.proofs.record.put_half.Reads as put-half-reads
-use Rattle.query.proofs.record.put_word.Reads as put-word-reads
 
--- src/record.rt:92:29
 cast-put-word : tie.Need-cast-put-word
 cast-put-word c = search needs
 
--- src/record.rt:92:5
 put-word-requires : tie.Need-put-word-requires
 put-word-requires c κs = search needs
 
--- src/record.rt:93:29
 flag-requires : tie.Need-flag-requires
 flag-requires c κs = search needs
 
--- src/record.rt:93:5
 put-byte-requires : tie.Need-put-byte-requires
 put-byte-requires c κs = search needs
 
--- src/record.rt:94:29
 flag-requires-2 : tie.Need-flag-requires-2
 flag-requires-2 c κs = search needs
 
--- src/record.rt:94:5
 put-byte-requires-2 : tie.Need-put-byte-requires-2
 put-byte-requires-2 c κs = search needs
 
--- src/record.rt:95:5
 put-half-requires : tie.Need-put-half-requires
 put-half-requires c κs = search needs
 
--- src/record.rt:88:1
 same-length : tie.Need-same-length
 same-length c = search needs
 
--- src/record.rt:88:1
 returns : tie.Need-returns
 unfolding half indexBytes
 returns c =

@@ -1,5 +1,6 @@
+-- `query::record::put_slot` meets its contract: one field after the other. Assumes nothing.
 use Prim.Native.Nat.{_+_}
-use mathlib.Core.Path.{_≡_, refl, ap}
+use mathlib.Core.Path.{refl, ap}
 use native.Mathlib.Omega.{arith}
 use lib.ListN.{take}
 use denote.Ref.{now}
@@ -8,44 +9,31 @@ use Rattle.query.proofs.Written.{then-put}
 use borrow.Author.Needs.{needs}
 use Rattle.query.proofs.record.put_slot.Statement.{statement}
 use Rattle.query.proofs.record.put_slot.Tie as tie
-use Rattle.query.proofs.record.put_slot.Reads as reads
-use Rattle.query.proofs.record.put_slot.Lts as lts
-use Rattle.query.proofs.record.put_word.Reads as put-word-reads
-use Rattle.query.proofs.record.value_bits.Reads as value-bits-reads
 
--- src/record.rt:79:9
 put-word-requires : tie.Need-put-word-requires
 put-word-requires c κs = search needs
 
--- src/record.rt:80:29
 add-put-word : tie.Need-add-put-word
 add-put-word c = search needs
 
--- src/record.rt:80:37
 value-bits-requires : tie.Need-value-bits-requires
 value-bits-requires c κs = search needs
 
--- src/record.rt:80:9
 put-word-requires-2 : tie.Need-put-word-requires-2
 put-word-requires-2 c κs = search needs
 
--- src/record.rt:82:9
 put-word-requires-3 : tie.Need-put-word-requires-3
 put-word-requires-3 c κs = search needs
 
--- src/record.rt:83:29
 add-put-word-2 : tie.Need-add-put-word-2
 add-put-word-2 c = search needs
 
--- src/record.rt:83:9
 put-word-requires-4 : tie.Need-put-word-requires-4
 put-word-requires-4 c κs = search needs
 
--- src/record.rt:74:1
 same-length : tie.Need-same-length
 same-length c = search needs
 
--- src/record.rt:74:1
 returns : tie.Need-returns
 unfolding slotBytes
 returns c =
@@ -54,11 +42,9 @@ returns c =
     (then-put (take at (now (c .before .before .before .before .before .before .before .before .before .before .before .args .out))) _ _ _ _ _ (at + 4) (at + 4 + 4) (at + 8) (omega arith)
     (c .before .before .before .before .before .before .before .put-word .ensures) (c .before .before .put-word2 .ensures) (ap word (c .before .before .before .value-bits .ensures)))
 
--- src/record.rt:74:1
 same-length-2 : tie.Need-same-length-2
 same-length-2 c = search needs
 
--- src/record.rt:74:1
 returns-2 : tie.Need-returns-2
 unfolding slotBytes
 returns-2 c =
