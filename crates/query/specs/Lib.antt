@@ -4,3 +4,6 @@ pub mod Fields
 pub mod Entries
 pub mod Job
 pub mod Layout
+pub mod Offers
+pub mod Record
+pub mod Cursor

@@ -4,3 +4,7 @@ pub mod export;
 pub mod fields;
 pub mod job;
 pub mod sections;
+// Jobs and offers.
+pub mod cursor;
+pub mod offers;
+pub mod record;
