@@ -1,0 +1,13 @@
+-- Laws that several proofs cite.
+pub mod Numbers
+pub mod Below
+pub mod Ranks
+pub mod Standings
+pub mod Before
+pub mod Choice
+pub mod Scans
+pub mod Demand
+pub mod Fill
+pub mod Gathered
+pub mod Matched
+pub mod Listed

@@ -1,0 +1,79 @@
+use Prim.Native.Nat.{ℕ, _-_, _^_, _≤_}
+use mathlib.Core.Path.{_≡_, refl, sym, _∙_, ap}
+use mathlib.Core.Bool.{Bool, true, false, cond, _&&_}
+use mathlib.Core.List.{List}
+use native.Mathlib.Omega.{arith}
+use lib.Dec.{eqb}
+use lib.ListN.{getD}
+use borrow.Author.Needs.{needs}
+use borrow.Author.Count.{below-more}
+use denote.Ref.{now}
+use Rattle.font.specs.First.{leastBelow}
+use Rattle.matching.specs.declared.order.Request.{Request}
+use Rattle.matching.specs.declared.rank.Standing.{Standing}
+use Rattle.matching.specs.Packed.{packed, Short}
+use Rattle.matching.specs.Order.{widthStanding, styleStanding, weightStanding}
+use Rattle.matching.proofs.Below.{least-more}
+use Rattle.matching.proofs.stages.width_stage.Statement.{statement}
+use Rattle.matching.proofs.stages.width_stage.Tie as tie
+
+abbrev ranks : List ℕ → ℕ → ℕ → ℕ
+ranks percents wanted j =
+    packed (widthStanding wanted (getD percents j 0)) j
+
+abbrev Inv-loop : tie.InvT-loop
+Inv-loop percents count wanted best₀ i₀ best i = (i ≤ count) × (best ≡ leastBelow (2 ^ 64 - 1) (ranks percents wanted) i) × Short percents i
+
+abbrev μ-loop : tie.MeasureT-loop
+μ-loop percents count wanted best₀ i₀ best i = count - i
+
+loop-holds : tie.Need-loop-holds Inv-loop μ-loop
+unfolding leastBelow
+loop-holds c = (omega arith, refl, λ j h. absurd (omega arith))
+
+mul-width-rank : tie.Need-mul-width-rank Inv-loop μ-loop
+mul-width-rank c = search needs
+
+element-copy-out-width-rank : tie.Need-element-copy-out-width-rank Inv-loop μ-loop
+element-copy-out-width-rank c = omega arith
+
+width-rank-requires : tie.Need-width-rank-requires Inv-loop μ-loop
+width-rank-requires c κs = omega arith
+
+lower-requires : tie.Need-lower-requires Inv-loop μ-loop
+lower-requires c κs = search needs
+
+add-i : tie.Need-add-i Inv-loop μ-loop
+add-i c = omega arith
+
+loop-less : tie.Need-loop-less Inv-loop μ-loop
+loop-less c = omega arith
+
+loop-again : tie.Need-loop-again Inv-loop μ-loop
+loop-again c =
+    ( omega arith
+    , least-more (2 ^ 64 - 1) (ranks (now (c .before .before .before .before .before .args .percents)) (c .before .before .before .before .before .args .wanted)) (c .before .before .before .before .loop .i) (c .before .before .before .before .loop .inv .1) (c .before .width-rank .ensures .0) (c .lower .ensures)
+    , below-more _ _ (c .before .before .before .before .loop .inv .2) (c .before .width-rank .ensures .1)
+    )
+
+returns : tie.Need-returns Inv-loop μ-loop
+returns c =
+    ( c .before .loop .inv .1 ∙ ap (leastBelow (2 ^ 64 - 1) (ranks (now (c .before .before .args .percents)) (c .before .before .args .wanted))) (omega arith)
+    , λ j h. c .before .loop .inv .2 j (omega arith)
+    )
+
+pub width-stage-spec : {M : Type 1} → statement M
+width-stage-spec =
+    tie.close
+    (tie.spec
+    Inv-loop
+    μ-loop
+    loop-holds
+    mul-width-rank
+    element-copy-out-width-rank
+    width-rank-requires
+    lower-requires
+    add-i
+    loop-less
+    loop-again
+    returns)
