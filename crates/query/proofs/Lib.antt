@@ -1,0 +1,7 @@
+-- Laws that the proofs of `query` share, and the theorems on the job's layout.
+pub mod Ends
+pub mod Singles
+pub mod Leaves
+pub mod Fonts
+pub mod Checks
+pub mod Positions

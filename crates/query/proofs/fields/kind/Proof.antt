@@ -1,0 +1,22 @@
+-- `query::fields::kind` meets its contract.
+-- Assumes nothing.
+use mathlib.Core.Path.{_∙_}
+use Rattle.query.specs.Reader.{number, unknown}
+use Rattle.query.specs.Fields.{kind, byte}
+use Rattle.query.proofs.Ends.{tested-ends}
+use borrow.Author.Needs.{needs}
+use Rattle.query.proofs.fields.kind.Statement.{statement}
+use Rattle.query.proofs.fields.kind.Tie as tie
+
+byte-at-requires : tie.Need-byte-at-requires
+byte-at-requires c κs = search needs
+
+tested-requires : tie.Need-tested-requires
+tested-requires c κs = search needs
+
+returns : tie.Need-returns
+unfolding kind byte number
+returns c = rw (c .before .byte-at .ensures) at (c .tested .ensures) ∙ tested-ends unknown _ _ _ _ _
+
+pub kind-spec : {M : Type 1} → statement M
+kind-spec = tie.close (tie.spec byte-at-requires tested-requires returns)

@@ -1,0 +1,51 @@
+-- `query::sections::family_run` meets its contract. The invariant: what is left to read from here ends as the whole does.
+-- Assumes nothing.
+use mathlib.Core.Path.{_≡_, refl, _∙_}
+use native.Mathlib.Omega.{arith}
+use Rattle.query.specs.Reader.{ended, many}
+use Rattle.query.specs.Entries.{readFamily}
+use Rattle.query.proofs.Ends.{many-stops, many-goes, many-over}
+use borrow.Author.Needs.{needs}
+use Rattle.query.proofs.sections.family_run.Statement.{statement}
+use Rattle.query.proofs.sections.family_run.Tie as tie
+
+abbrev Inv-loop : tie.InvT-loop
+Inv-loop job at count faces place₀ left₀ place left = ended (many left (readFamily faces) job place) ≡ ended (many count (readFamily faces) job at)
+
+abbrev μ-loop : tie.MeasureT-loop
+μ-loop job at count faces place₀ left₀ place left = left
+
+loop-holds : tie.Need-loop-holds Inv-loop μ-loop
+loop-holds c = refl
+
+family-requires : tie.Need-family-requires Inv-loop μ-loop
+family-requires c κs = search needs
+
+returns : tie.Need-returns Inv-loop μ-loop
+returns c = many-stops _ _ _ _ (c .before .before .before .loop-test .taken) (c .before .before .family .ensures) (c .if1 .taken) ∙ c .before .before .before .before .loop .inv
+
+sub-left : tie.Need-sub-left Inv-loop μ-loop
+sub-left c = omega arith
+
+loop-less : tie.Need-loop-less Inv-loop μ-loop
+loop-less c = omega arith
+
+loop-again : tie.Need-loop-again Inv-loop μ-loop
+loop-again c = many-goes _ _ _ _ (c .before .before .before .loop-test .taken) (c .before .before .family .ensures) (c .if1 .left) ∙ c .before .before .before .before .loop .inv
+
+returns-2 : tie.Need-returns-2 Inv-loop μ-loop
+returns-2 c = many-over _ _ _ _ (c .loop-test .left) ∙ c .before .loop .inv
+
+pub family-run-spec : {M : Type 1} → statement M
+family-run-spec =
+    tie.close
+    (tie.spec
+    Inv-loop
+    μ-loop
+    loop-holds
+    family-requires
+    returns
+    sub-left
+    loop-less
+    loop-again
+    returns-2)

@@ -1,0 +1,5 @@
+-- What the contracts of `query` cite. Each definition is written from the scope's section 6.
+pub mod Reader
+pub mod Fields
+pub mod Entries
+pub mod Job

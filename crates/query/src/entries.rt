@@ -1,0 +1,232 @@
+// The entries of a job. Each function takes the job and the entry's position, and answers the refusal or the next position.
+ghost use mathlib.Core.Path.{_≡_};
+ghost use mathlib.Core.Bool.{cond};
+ghost use Rattle.query.specs.Reader.{ended, many};
+ghost use Rattle.query.specs.Fields.{half, ratio, value, spareWord, byteCounted, faceNumber};
+ghost use Rattle.query.specs.Entries.{readFace, readStyle, styleOrSpare, readGiven, readPair, readOverride, readFamily, readRequested, readRequest};
+use crate::fields;
+use crate::fields::At;
+use font::tables;
+
+// Held byte, length and font file.
+pub fn face(job: &[u8], at: usize) -> At
+    ensures { λ r. ⌜ r ≡ ended (readFace (now (job .entry)) at) ⌝ }
+{
+    let held = fields::held(job, at);
+    if held.refusal != 0 {
+        return held;
+    }
+    fields::font_file(job, held.at)
+}
+
+fn ratio_or_spare(job: &[u8], at: usize, given: bool) -> At
+    ensures { λ r. ⌜ r ≡ cond given (ended (ratio (now (job .entry)) at)) (ended (spareWord (now (job .entry)) at)) ⌝ }
+{
+    if given {
+        fields::ratio(job, at)
+    } else {
+        fields::spare_word(job, at)
+    }
+}
+
+fn value_or_spare(job: &[u8], at: usize, given: bool) -> At
+    ensures { λ r. ⌜ r ≡ cond given (ended (value (now (job .entry)) at)) (ended (spareWord (now (job .entry)) at)) ⌝ }
+{
+    if given {
+        fields::value(job, at)
+    } else {
+        fields::spare_word(job, at)
+    }
+}
+
+// Kind and angle.
+pub fn style(job: &[u8], at: usize) -> At
+    ensures { λ r. ⌜ r ≡ ended (readStyle (now (job .entry)) at) ⌝ }
+{
+    let kind = fields::kind(job, at);
+    if kind.refusal != 0 {
+        return kind;
+    }
+    value_or_spare(job, kind.at, fields::byte_at(job, at) == 3)
+}
+
+fn style_or_spare(job: &[u8], at: usize, given: bool) -> At
+    ensures { λ r. ⌜ r ≡ ended (styleOrSpare given (now (job .entry)) at) ⌝ }
+{
+    if given {
+        return style(job, at);
+    }
+    let kind = fields::spare_byte(job, at);
+    if kind.refusal != 0 {
+        return kind;
+    }
+    fields::spare_word(job, kind.at)
+}
+
+// Ratio, style and weight of an override, by its mask.
+pub fn given(job: &[u8], at: usize, mask: u8) -> At
+    ensures { λ r. ⌜ r ≡ ended (readGiven mask (now (job .entry)) at) ⌝ }
+{
+    let width = ratio_or_spare(job, at, mask % 2 == 1);
+    if width.refusal != 0 {
+        return width;
+    }
+    let style = style_or_spare(job, width.at, mask / 2 % 2 == 1);
+    if style.refusal != 0 {
+        return style;
+    }
+    value_or_spare(job, style.at, mask / 4 % 2 == 1)
+}
+
+// Tag and value.
+fn pair(job: &[u8], at: usize) -> At
+    ensures { λ r. ⌜ r ≡ ended (readPair (now (job .entry)) at) ⌝ }
+{
+    let tag = fields::word(job, at);
+    if tag.refusal != 0 {
+        return tag;
+    }
+    fields::value(job, tag.at)
+}
+
+fn pair_run(job: &[u8], at: usize, count: usize) -> At
+    ensures { λ r. ⌜ r ≡ ended (many count readPair (now (job .entry)) at) ⌝ }
+{
+    let mut place = at;
+    let mut left = count;
+    while 0 < left {
+        let next = pair(job, place);
+        if next.refusal != 0 {
+            return next;
+        }
+        place = next.at;
+        left -= 1;
+    }
+    At {
+        refusal: 0,
+        at: place,
+    }
+}
+
+// Axis pair count and pairs.
+pub fn pairs(job: &[u8], at: usize) -> At
+    ensures { λ r. ⌜ r ≡ ended (byteCounted readPair (now (job .entry)) at) ⌝ }
+{
+    let count = fields::byte(job, at);
+    if count.refusal != 0 {
+        return count;
+    }
+    pair_run(job, count.at, fields::byte_at(job, at) as usize)
+}
+
+// An override, in a job of `faces` faces.
+pub fn override_entry(job: &[u8], at: usize, faces: u16) -> At
+    ensures { λ r. ⌜ r ≡ ended (readOverride faces (now (job .entry)) at) ⌝ }
+{
+    let face = fields::face_number(job, at, faces);
+    if face.refusal != 0 {
+        return face;
+    }
+    let mask = fields::mask(job, face.at);
+    if mask.refusal != 0 {
+        return mask;
+    }
+    let given = given(job, mask.at, fields::byte_at(job, face.at));
+    if given.refusal != 0 {
+        return given;
+    }
+    pairs(job, given.at)
+}
+
+fn face_number_run(job: &[u8], at: usize, count: usize, faces: u16) -> At
+    ensures { λ r. ⌜ r ≡ ended (many count (faceNumber faces) (now (job .entry)) at) ⌝ }
+{
+    let mut place = at;
+    let mut left = count;
+    while 0 < left {
+        let next = fields::face_number(job, place, faces);
+        if next.refusal != 0 {
+            return next;
+        }
+        place = next.at;
+        left -= 1;
+    }
+    At {
+        refusal: 0,
+        at: place,
+    }
+}
+
+// A family, in a job of `faces` faces.
+pub fn family(job: &[u8], at: usize, faces: u16) -> At
+    ensures { λ r. ⌜ r ≡ ended (readFamily faces (now (job .entry)) at) ⌝ }
+{
+    let count = fields::count(job, at, 64);
+    if count.refusal != 0 {
+        return count;
+    }
+    face_number_run(job, count.at, tables::u16_at(job, at) as usize, faces)
+}
+
+fn number_run(job: &[u8], at: usize, count: usize) -> At
+    ensures { λ r. ⌜ r ≡ ended (many count half (now (job .entry)) at) ⌝ }
+{
+    let mut place = at;
+    let mut left = count;
+    while 0 < left {
+        let next = fields::half(job, place);
+        if next.refusal != 0 {
+            return next;
+        }
+        place = next.at;
+        left -= 1;
+    }
+    At {
+        refusal: 0,
+        at: place,
+    }
+}
+
+// A byte count and 16-bit numbers.
+pub fn numbers(job: &[u8], at: usize) -> At
+    ensures { λ r. ⌜ r ≡ ended (byteCounted half (now (job .entry)) at) ⌝ }
+{
+    let count = fields::byte(job, at);
+    if count.refusal != 0 {
+        return count;
+    }
+    number_run(job, count.at, fields::byte_at(job, at) as usize)
+}
+
+// Ratio, style and weight of a request.
+pub fn requested(job: &[u8], at: usize) -> At
+    ensures { λ r. ⌜ r ≡ ended (readRequested (now (job .entry)) at) ⌝ }
+{
+    let width = fields::ratio(job, at);
+    if width.refusal != 0 {
+        return width;
+    }
+    let style = style(job, width.at);
+    if style.refusal != 0 {
+        return style;
+    }
+    fields::value(job, style.at)
+}
+
+pub fn request(job: &[u8], at: usize) -> At
+    ensures { λ r. ⌜ r ≡ ended (readRequest (now (job .entry)) at) ⌝ }
+{
+    let most = fields::half(job, at);
+    if most.refusal != 0 {
+        return most;
+    }
+    let attributes = requested(job, most.at);
+    if attributes.refusal != 0 {
+        return attributes;
+    }
+    let families = numbers(job, attributes.at);
+    if families.refusal != 0 {
+        return families;
+    }
+    numbers(job, families.at)
+}
