@@ -5,3 +5,9 @@ pub mod Leaves
 pub mod Fonts
 pub mod Checks
 pub mod Positions
+-- The offers.
+pub mod Picked
+pub mod Places
+pub mod Defaults
+pub mod Gathered
+pub mod Turns

@@ -3,3 +3,4 @@ pub mod Reader
 pub mod Fields
 pub mod Entries
 pub mod Job
+pub mod Offers

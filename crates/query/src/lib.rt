@@ -1,6 +1,7 @@
-// The job: its layout, its refusals, and the check call.
+// Jobs and offers: the job's layout and refusals, the check call, and the offers of a request.
 pub mod entries;
 pub mod export;
 pub mod fields;
 pub mod job;
+pub mod offers;
 pub mod sections;
