@@ -1,5 +1,5 @@
 -- The numbers of the faces of a family by value, gathered into lists, are the family.
-use Prim.Native.Nat.{ℕ, zero, suc, _<_}
+use Prim.Native.Nat.{ℕ, zero, suc, _<_, _≤_}
 use mathlib.Core.Path.{_≡_, refl, _∙_}
 use mathlib.Core.Bool.{Bool, true, false, _&&_, cond}
 use mathlib.Core.List.{List, [], _∷_, _++_}
@@ -11,7 +11,7 @@ use Rattle.matching.specs.Below.{placesBelow}
 use lib.ListN.{getD}
 use Rattle.font.specs.declared.font.FontInfo.{FontInfo}
 use Rattle.matching.specs.Order.{Face, Family, faceOfLists, familyOfLists, equalTo}
-use Rattle.matching.specs.Matching.{faceOf, noFace, blank, familyOf, styleNumber, exactSame}
+use Rattle.matching.specs.Matching.{faceOf, noFace, blank, familyOf, styleNumber, exactSame, axisCount}
 use Rattle.matching.proofs.Fill.{Filled}
 
 face-same : (b : Bool) (x : Face) (p s w : ℕ) (l : Bool)
@@ -62,3 +62,8 @@ module _ (fonts : List FontInfo) (n : ℕ) (ratios styles weights : List ℕ) wh
         eqb (filled-at (λ i. orderKey (getD fonts i noFace .attributes .width .ratio)) ratios n j a l k) (filled-at (λ i. orderKey (getD fonts i noFace .attributes .width .ratio)) ratios n chosen a h k)
         && (eqb (filled-at (λ i. styleNumber (getD fonts i noFace .attributes .style)) styles n j b l k) (filled-at (λ i. styleNumber (getD fonts i noFace .attributes .style)) styles n chosen b h k)
         && eqb (filled-at (λ i. orderKey (getD fonts i noFace .attributes .weight .value)) weights n j c l k) (filled-at (λ i. orderKey (getD fonts i noFace .attributes .weight .value)) weights n chosen c h k)))
+
+-- a face has at most 16 axes
+pub axes-few : (font : FontInfo) → axisCount font ≤ 16
+unfolding axisCount
+axes-few font = omega arith

@@ -1,8 +1,6 @@
 -- The order numbers of the angles and weights that section 4 names, as the code has them.
 use mathlib.Core.Path.{_≡_, refl}
-use mathlib.Core.Bool.{cond}
-use lib.Ieee.{ofInt, round, size, span, climb, units, odd, neg, toBits, isNan}
-use lib.Count.{trailingZeros}
+use lib.Ieee.{binary32, ofInt, ofBits, round, neg, toBits, isNan}
 use Rattle.font.specs.Single.{single, orderKey, keyOfBits}
 use Rattle.matching.specs.Order.{zeroAngle, fourteen, minusFourteen, fourHundred, fiveHundred}
 
@@ -25,3 +23,24 @@ four-hundred = refl
 pub five-hundred : fiveHundred ≡ 0xC3FA_0000
 unfolding fiveHundred orderKey keyOfBits single ofInt round toBits isNan
 five-hundred = refl
+
+-- whole numbers as singles, as the code has them
+pub single-0 : single 0 ≡ ofBits binary32 0
+unfolding single ofInt round ofBits
+single-0 = refl
+
+pub single-1 : single 1 ≡ ofBits binary32 0x3F80_0000
+unfolding single ofInt round ofBits
+single-1 = refl
+
+pub single-14 : single 14 ≡ ofBits binary32 0x4160_0000
+unfolding single ofInt round ofBits
+single-14 = refl
+
+pub single-100 : single 100 ≡ ofBits binary32 0x42C8_0000
+unfolding single ofInt round ofBits
+single-100 = refl
+
+pub single-200 : single 200 ≡ ofBits binary32 0x4348_0000
+unfolding single ofInt round ofBits
+single-200 = refl

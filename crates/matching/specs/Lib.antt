@@ -5,3 +5,4 @@ pub mod Order
 pub mod Packed
 pub mod Matching
 pub mod Family
+pub mod Synthesis

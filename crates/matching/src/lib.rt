@@ -5,3 +5,5 @@ pub mod stages;
 pub mod axes;
 pub mod matching;
 pub mod family;
+pub mod synthesis;
+pub mod face;

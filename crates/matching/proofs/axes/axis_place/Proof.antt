@@ -4,18 +4,14 @@ use mathlib.Core.Bool.{true, false}
 use native.Mathlib.Omega.{arith}
 use lib.Dec.{eqb}
 use lib.ListN.{getD}
-use Rattle.font.specs.declared.font.FontInfo.{FontInfo}
 use borrow.Author.Needs.{needs}
 use borrow.Author.Count.{below-more}
 use borrow.Author.Tests.{eq-eqb, ne-eqb}
 use Rattle.matching.specs.Matching.{noAxis, axisAt, axisCount, axisPlace}
 use Rattle.matching.proofs.Below.{first-is, first-none}
+use Rattle.matching.proofs.Gathered.{axes-few}
 use Rattle.matching.proofs.axes.axis_place.Statement.{statement}
 use Rattle.matching.proofs.axes.axis_place.Tie as tie
-
-few : (font : FontInfo) → axisCount font ≤ 16
-unfolding axisCount
-few font = omega arith
 
 abbrev Inv-loop : tie.InvT-loop
 Inv-loop tag count axes i₀ i = (i ≤ count) × ((j : ℕ) → j < i → eqb (getD axes j noAxis .tag) tag ≡ false)
@@ -30,10 +26,10 @@ loop-holds : tie.Need-loop-holds Inv-loop μ-loop
 loop-holds c = (omega arith, λ j h. absurd (omega arith))
 
 mul-if1 : tie.Need-mul-if1 Inv-loop μ-loop
-mul-if1 c = omega (arith, few (c .before .before .before .before .args .font), c .before .before .before .axis-count .ensures)
+mul-if1 c = omega (arith, axes-few (c .before .before .before .before .args .font), c .before .before .before .axis-count .ensures)
 
 element-copy-out-if1 : tie.Need-element-copy-out-if1 Inv-loop μ-loop
-element-copy-out-if1 c = omega (arith, few (c .before .before .before .before .args .font), c .before .before .before .axis-count .ensures)
+element-copy-out-if1 c = omega (arith, axes-few (c .before .before .before .before .args .font), c .before .before .before .axis-count .ensures)
 
 returns : tie.Need-returns Inv-loop μ-loop
 unfolding axisPlace axisAt

@@ -1,0 +1,69 @@
+use mir.Syntax.{w8}
+use mir.ValLaws.{toZ-ofZ}
+use mathlib.Core.Path.{_∙_}
+use Rattle.matching.specs.Synthesis.{unvaried, added, synthesized}
+use borrow.Author.Needs.{needs}
+use Rattle.matching.proofs.synthesis.synthesize.Statement.{statement}
+use Rattle.matching.proofs.synthesis.synthesize.Tie as tie
+
+emboldens-requires : tie.Need-emboldens-requires
+emboldens-requires c κs = search needs
+
+skew-of-requires : tie.Need-skew-of-requires
+skew-of-requires c κs = search needs
+
+unvaried-requires : tie.Need-unvaried-requires
+unvaried-requires c κs = search needs
+
+width-setting-requires : tie.Need-width-setting-requires
+width-setting-requires c κs = search needs
+
+added-requires : tie.Need-added-requires
+added-requires c κs = search needs
+
+weight-setting-requires : tie.Need-weight-setting-requires
+weight-setting-requires c κs = search needs
+
+added-requires-2 : tie.Need-added-requires-2
+added-requires-2 c κs = search needs
+
+style-setting-requires : tie.Need-style-setting-requires
+style-setting-requires c κs = search needs
+
+added-requires-3 : tie.Need-added-requires-3
+added-requires-3 c κs = search needs
+
+returns : tie.Need-returns
+unfolding synthesized
+returns c =
+    c .added3 .ensures
+    ∙ (λ k.
+        added
+        ((c .before .before .added2 .ensures
+        ∙ (λ l.
+            added
+            ((c .before .before .before .before .added .ensures
+            ∙ (λ m.
+                added
+                ((c .before .before .before .before .before .before .unvaried .ensures
+                ∙ (λ n.
+                    unvaried 0 (c .before .before .before .before .before .before .before .before .emboldens .ensures n)
+                    ((toZ-ofZ w8 (c .before .before .before .before .before .before .before .skew-of .result) (record { sfits = c .before .before .before .before .before .before .before .skew-of .ok }) ∙ c .before .before .before .before .before .before .before .skew-of .ensures) n))) m)
+                (c .before .before .before .before .before .width-setting .ensures m))) l)
+            (c .before .before .before .weight-setting .ensures l))) k)
+        (c .before .style-setting .ensures k))
+
+pub synthesize-spec : {M : Type 1} → statement M
+synthesize-spec =
+    tie.close
+    (tie.spec
+    emboldens-requires
+    skew-of-requires
+    unvaried-requires
+    width-setting-requires
+    added-requires
+    weight-setting-requires
+    added-requires-2
+    style-setting-requires
+    added-requires-3
+    returns)
