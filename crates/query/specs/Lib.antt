@@ -4,3 +4,4 @@ pub mod Fields
 pub mod Entries
 pub mod Job
 pub mod Offers
+pub mod Sheet

@@ -20,11 +20,11 @@ place-for-requires : tie.Need-place-for-requires
 place-for-requires c κs = search needs
 
 returns : tie.Need-returns
-unfolding defaultPlace defaultAttributes attributesOf single ofInt round ofBits
+unfolding defaultPlace defaultAttributes single ofInt round ofBits
 returns c = let q : c .before .place-for .result ≡ choice (familyOf (c .before .before .before .args .fonts) (c .before .before .before .args .count)) (requestOf defaultAttributes false) = (c .before .place-for .ensures ∙ ap (choice (familyOf (c .before .before .before .args .fonts) (c .before .before .before .args .count))) (c .before .before .request-of .ensures)) in q ∙ sym (rw (lt-ltb (choice (familyOf (c .before .before .before .args .fonts) (c .before .before .before .args .count)) (requestOf defaultAttributes false)) (c .before .before .before .args .count) (omega arith)))
 
 returns-2 : tie.Need-returns-2
-unfolding defaultPlace defaultAttributes attributesOf single ofInt round ofBits
+unfolding defaultPlace defaultAttributes single ofInt round ofBits
 returns-2 c = let q : c .before .place-for .result ≡ choice (familyOf (c .before .before .before .args .fonts) (c .before .before .before .args .count)) (requestOf defaultAttributes false) = (c .before .place-for .ensures ∙ ap (choice (familyOf (c .before .before .before .args .fonts) (c .before .before .before .args .count))) (c .before .before .request-of .ensures)) in sym (rw (le-ltb (choice (familyOf (c .before .before .before .args .fonts) (c .before .before .before .args .count)) (requestOf defaultAttributes false)) (c .before .before .before .args .count) (omega arith)))
 
 pub default-place-spec : {M : Type 1} → statement M
