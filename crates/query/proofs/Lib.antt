@@ -5,6 +5,7 @@ pub mod Leaves
 pub mod Fonts
 pub mod Checks
 pub mod Positions
+pub mod Runs
 -- The offers.
 pub mod Picked
 pub mod Places

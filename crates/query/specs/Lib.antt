@@ -5,3 +5,4 @@ pub mod Entries
 pub mod Job
 pub mod Offers
 pub mod Sheet
+pub mod Located

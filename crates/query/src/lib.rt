@@ -3,5 +3,6 @@ pub mod entries;
 pub mod export;
 pub mod fields;
 pub mod job;
+pub mod located;
 pub mod offers;
 pub mod sections;
