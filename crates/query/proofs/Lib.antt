@@ -12,3 +12,5 @@ pub mod Places
 pub mod Defaults
 pub mod Gathered
 pub mod Turns
+-- From a job's bytes to its families and requests.
+pub mod Entered

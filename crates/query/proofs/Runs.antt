@@ -106,3 +106,9 @@ module _ {A : Type 0} (v : ℕ → A) (next : ℕ → ℕ) (Known : ℕ → Type
       let last : q ≡ b .1 = cc (b .3) in
       carried (suc n) p xs (a .0 ∷ b .0) q (b .1) same last
       (more n p (a .0) (a .1) (b .0) (b .1) (one p (a .0) (a .1) (a .2)) (run r s one n (a .1) (b .0) (b .1) (b .2)))
+
+  -- what begins in the job ends in the job, if each entry does
+  pub run-in : (most : ℕ) → ((p : ℕ) → Known p → next p ≤ most) → (n p : ℕ) (xs : List A) (q : ℕ) → p ≤ most → Run n p xs q → q ≤ most
+  unfolding placeOf
+  run-in most h zero p xs q l r = omega (arith, r .end)
+  run-in most h (suc n) p xs q l r = omega (arith, r .end, h (placeOf next p n) (r .known n (omega arith)))
