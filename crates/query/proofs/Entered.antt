@@ -227,6 +227,12 @@ request-one s p a q e =
 
 -- ---- the sections
 
+pub count-few : {A : Type 0} (limit : ℕ) (r : Reader A) (s : List ℕ) (p : ℕ) (xs : List A) (q : ℕ) → counted limit r s p ≡ got xs q → length xs ≤ limit
+unfolding counted
+count-few limit r s p xs q e =
+    let g = then-got (count limit) (λ n. many n r) s p xs q e in
+    omega (arith, many-length r (g .0) s (g .1) xs q (g .3), leb-true (g .0) limit (count-read limit s p (g .0) (g .1) (g .2) .passed))
+
 -- entries after a 16-bit count
 pub record Section {A : Type 0} (v : ℕ → A) (next : ℕ → ℕ) (Known : ℕ → Type 0) (s : List ℕ) (limit p : ℕ) (xs : List A) (q : ℕ) : Type 0 where
   pub count : length xs ≡ u16At s p

@@ -14,3 +14,4 @@ pub mod Gathered
 pub mod Turns
 -- From a job's bytes to its families and requests.
 pub mod Entered
+pub mod Glued
