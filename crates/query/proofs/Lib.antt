@@ -15,3 +15,4 @@ pub mod Turns
 -- From a job's bytes to its families and requests.
 pub mod Entered
 pub mod Glued
+pub mod Called

@@ -6,3 +6,5 @@ pub mod Job
 pub mod Offers
 pub mod Sheet
 pub mod Located
+pub mod Record
+pub mod Call
