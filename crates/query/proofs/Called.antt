@@ -4,28 +4,23 @@ use mathlib.Core.Path.{_≡_, refl, sym, ap, _∙_}
 use mathlib.Core.Bool.{Bool, true, false, cond}
 use mathlib.Core.List.{List}
 use native.Mathlib.Omega.{arith}
+use lib.Dec.{ltb, eqb}
 use lib.ListN.{length, getD}
 use borrow.Author.Tests.{eq-eqb, ne-eqb, lt-ltb, le-ltb}
 use Rattle.font.specs.Tables.{u16At}
 use Rattle.matching.specs.Matching.{requestOf}
-use Rattle.query.specs.declared.fields.At.{At}
 use Rattle.query.specs.declared.offers.Offer.{Offer}
 use Rattle.query.specs.declared.offers.Offered.{Offered}
 use Rattle.query.specs.declared.offers.Offered.the-variants as Offered'
-use Rattle.query.specs.Reader.{Got, refused, got, ended}
+use Rattle.query.specs.Reader.{Got, refused, got}
 use Rattle.query.specs.Job.{Job, readJob, answer, checkJob}
 use Rattle.query.specs.Offers.{Faces, facesOf, offers, offerAt, familiesAt, listAt, fallbacksAt}
 use Rattle.query.specs.Sheet.{fontOf, heldOf, offersOf, faceOfOffer, synthesisOfOffer}
 use Rattle.query.specs.Record.{recordBytes}
-use Rattle.query.specs.Located.{requestPlace, requestedAt}
+use Rattle.query.specs.Located.{familiesPlace, requestsPlace, requestPlace, requestedAt}
 use Rattle.query.specs.Call.{Called, unwritten, requestOfJob, offerWritten, answered, requestCall, jobCall, offerCall}
 use Rattle.query.proofs.Ends.{number-nonzero}
 use Rattle.query.proofs.Glued.{Laid, Loaded, SameFaces, offered}
-
--- the end of a reading that succeeded
-pub end-of : {A : Type 0} {g : Got A} {x : A} {q : ℕ} {a : At} → a ≡ ended g → g ≡ got x q → a .at ≡ q
-unfolding ended
-end-of {A} {g} {x} {q} {a} e h = ap (λ (y : At). y .at) (e ∙ ap ended h)
 
 -- a job that the check call accepts
 pub accepted-job : (s : List ℕ) → checkJob s .refusal ≡ 0 → (j : Job) × (e : ℕ) × (readJob s ≡ got j e)
@@ -65,8 +60,8 @@ module _ (s : List ℕ) (k n : ℕ) (out : List ℕ) where
         a-request = called ∙ rw (lt-ltb k (length (j .requests)) there)
 
         -- the answer of `request_offer`, on arrays that agree with the job's faces and families
-        module _ (l : Laid s j e) (positions : List ℕ) (loaded : Loaded s (l .families-at + 2) (length (j .families)) positions) (faces : Faces)
-            (same : SameFaces (length (j .faces)) faces (facesOf (fontOf j) (heldOf j))) (at : ℕ) (place : at ≡ requestPlace s (l .requests-at + 2) k)
+        module _ (l : Laid s j e) (positions : List ℕ) (loaded : Loaded s (familiesPlace s + 2) (length (j .families)) positions) (faces : Faces)
+            (same : SameFaces (length (j .faces)) faces (facesOf (fontOf j) (heldOf j))) (at : ℕ) (place : at ≡ requestPlace s (requestsPlace s + 2) k)
             (answer : Offered)
             (found : answer ≡ offerAt (offers faces (familiesAt s positions (length (j .families))) (requestOf (requestedAt s (at + 2)) true) (u16At s at)
               (listAt s (at + 15)) (listAt s (fallbacksAt s (at + 15)))) n) where
@@ -93,3 +88,29 @@ module _ (s : List ℕ) (k n : ℕ) (out : List ℕ) where
                 → offerCall s k n out ≡ record { result = 0; output = recordBytes o (synthesisOfOffer j (requestOfJob j k) o) (faceOfOffer j o .«charmap_index») }
             unfolding offerWritten
             written h = an-offer ∙ rw (ne-eqb (synthesisOfOffer j (requestOfJob j k) o .refusal) 29 h)
+
+-- "A refusal returns its number and writes nothing": all but 0 leave the output as it was
+pub kept : (s : List ℕ) (k n : ℕ) (out : List ℕ) → (offerCall s k n out .result ≡ 0 → ⊥) → offerCall s k n out .output ≡ out
+unfolding offerCall jobCall requestCall answered offerWritten unwritten
+kept s k n out = first (eqb (length out) 40) (readJob s)
+  where
+    fourth : (b : Bool) (bytes : List ℕ) → (cond b (unwritten 29 out) (record { result = 0; output = bytes }) .result ≡ 0 → ⊥)
+        → cond b (unwritten 29 out) (record { result = 0; output = bytes }) .output ≡ out
+    fourth true bytes h = refl
+    fourth false bytes h = absurd (h refl)
+    third : (j : Job) (o : Offered) → (answered j (requestOfJob j k) out o .result ≡ 0 → ⊥) → answered j (requestOfJob j k) out o .output ≡ out
+    third j (Offered'.At o) h =
+        fourth (eqb (synthesisOfOffer j (requestOfJob j k) o .refusal) 29)
+        (recordBytes o (synthesisOfOffer j (requestOfJob j k) o) (faceOfOffer j o .«charmap_index»)) h
+    third j Offered'.Past h = refl
+    second : (b : Bool) (c : Called) → ((c .result ≡ 0 → ⊥) → c .output ≡ out) → (m : ℕ)
+        → (cond b c (unwritten m out) .result ≡ 0 → ⊥) → cond b c (unwritten m out) .output ≡ out
+    second true c f m h = f h
+    second false c f m h = refl
+    of-job : (g : Got Job) → (jobCall g k n out .result ≡ 0 → ⊥) → jobCall g k n out .output ≡ out
+    of-job (refused w p) h = refl
+    of-job (got j p) h =
+        second (ltb k (length (j .requests))) (answered j (requestOfJob j k) out (offerAt (offersOf j (requestOfJob j k)) n))
+        (third j (offerAt (offersOf j (requestOfJob j k)) n)) 28 h
+    first : (b : Bool) (g : Got Job) → (cond b (jobCall g k n out) (unwritten 16 out) .result ≡ 0 → ⊥) → cond b (jobCall g k n out) (unwritten 16 out) .output ≡ out
+    first b g h = second b (jobCall g k n out) (of-job g) 16 h

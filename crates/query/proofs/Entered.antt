@@ -225,6 +225,16 @@ request-one s p a q e =
       known = (rw (y .end) at (y .inside), r .known)
     }
 
+-- ---- entries of a section
+
+pub families-run : (faces : ℕ) (s : List ℕ) (n p : ℕ) (fs : List Family) (q : ℕ) → many n (readFamily faces) s p ≡ got fs q
+    → Run (familyAt s) (afterFamily s) (FamilyIn s faces) n p fs q
+families-run faces s = run (familyAt s) (afterFamily s) (FamilyIn s faces) (readFamily faces) s (family-one faces s)
+
+pub requests-run : (s : List ℕ) (n p : ℕ) (rs : List Request) (q : ℕ) → many n readRequest s p ≡ got rs q
+    → Run (requestAt s) (afterRequest s) (RequestIn s) n p rs q
+requests-run s = run (requestAt s) (afterRequest s) (RequestIn s) readRequest s (request-one s)
+
 -- ---- the sections
 
 pub count-few : {A : Type 0} (limit : ℕ) (r : Reader A) (s : List ℕ) (p : ℕ) (xs : List A) (q : ℕ) → counted limit r s p ≡ got xs q → length xs ≤ limit
@@ -245,23 +255,23 @@ moved-run : {A : Type 0} {v : ℕ → A} {next : ℕ → ℕ} {Known : ℕ → T
 moved-run e f h = rw (e, f) at h
 
 section : {A : Type 0} (v : ℕ → A) (next : ℕ → ℕ) (Known : ℕ → Type 0) (r : Reader A) (s : List ℕ)
-    → ((p : ℕ) (a : A) (q : ℕ) → r s p ≡ got a q → One v next Known p a q)
+    → ((n p : ℕ) (xs : List A) (q : ℕ) → many n r s p ≡ got xs q → Run v next Known n p xs q)
     → (limit p : ℕ) (xs : List A) (q : ℕ) → counted limit r s p ≡ got xs q → Section v next Known s limit p xs q
 unfolding counted
-section v next Known r s one limit p xs q e =
+section v next Known r s all limit p xs q e =
     let g = then-got (count limit) (λ n. many n r) s p xs q e in
     let c = count-read limit s p (g .0) (g .1) (g .2) in
     record {
       count = counted-length limit r s p xs q e;
       few = omega (arith, c .value, leb-true (g .0) limit (c .passed));
       start = c .inside;
-      entries = moved-run (c .value) (c .next) (run v next Known r s one (g .0) (g .1) xs q (g .3))
+      entries = moved-run (c .value) (c .next) (all (g .0) (g .1) xs q (g .3))
     }
 
 pub families-read : (faces : ℕ) (s : List ℕ) (p : ℕ) (fs : List Family) (q : ℕ) → counted 64 (readFamily faces) s p ≡ got fs q
     → Section (familyAt s) (afterFamily s) (FamilyIn s faces) s 64 p fs q
-families-read faces s p fs q e = section (familyAt s) (afterFamily s) (FamilyIn s faces) (readFamily faces) s (family-one faces s) 64 p fs q e
+families-read faces s p fs q e = section (familyAt s) (afterFamily s) (FamilyIn s faces) (readFamily faces) s (families-run faces s) 64 p fs q e
 
 pub requests-read : (s : List ℕ) (p : ℕ) (rs : List Request) (q : ℕ) → counted 256 readRequest s p ≡ got rs q
     → Section (requestAt s) (afterRequest s) (RequestIn s) s 256 p rs q
-requests-read s p rs q e = section (requestAt s) (afterRequest s) (RequestIn s) readRequest s (request-one s) 256 p rs q e
+requests-read s p rs q e = section (requestAt s) (afterRequest s) (RequestIn s) readRequest s (requests-run s) 256 p rs q e

@@ -13,14 +13,14 @@ use Rattle.matching.specs.declared.order.Request.{Request}
 use Rattle.matching.specs.Order.{Face}
 use Rattle.matching.specs.Matching.{requestOf, blank}
 use Rattle.query.specs.declared.offers.Offer.{Offer}
-use Rattle.query.specs.Reader.{overlong, bytesLeft, Got, refused, got, _>>=_}
+use Rattle.query.specs.Reader.{overlong, bytesLeft, Got, refused, got, _>>=_, ended}
 use Rattle.query.specs.Fields.{counted}
 use Rattle.query.specs.Entries.{Family, readFace, readOverride, readFamily, readRequest}
 use Rattle.query.specs.Entries as Entry
 use Rattle.query.specs.Job.{Job, atEnd, readSections, readJob}
 use Rattle.query.specs.Offers.{Faces, Families, facesOf, groupOf, familyOffers, offerOf, numberOffers, inTurn, offers, membersAt, familiesAt, listAt, fallbacksAt, Small}
 use Rattle.query.specs.Sheet.{fontOf, heldOf, membersOf, familiesOf, offersOf}
-use Rattle.query.specs.Located.{placeOf, afterFamily, familyPlace, familyAt, FamilyKnown, afterRequest, requestPlace, requestedAt, RequestedKnown, requestAt}
+use Rattle.query.specs.Located.{placeOf, afterFamily, familyPlace, overridesPlace, familiesPlace, requestsPlace, familyAt, FamilyKnown, afterRequest, requestPlace, requestedAt, RequestedKnown, requestAt}
 use Rattle.query.proofs.Ends.{then-got}
 use Rattle.query.proofs.Leaves.{counted-length, count-read}
 use Rattle.query.proofs.Gathered.{numbers-length, number-at}
@@ -31,13 +31,42 @@ use Rattle.query.proofs.Entered.{FamilyIn, RequestIn, Section, families
 
 pub record Laid (s : List ℕ) (j : Job) (end : ℕ) : Type 0 where
   pub short : length s ≤ 16777216
-  pub overrides-at : ℕ
-  pub families-at : ℕ
-  pub requests-at : ℕ
-  pub faces : counted 256 readFace s 0 ≡ got (j .faces) overrides-at
-  pub overrides : counted 256 (readOverride (length (j .faces))) s overrides-at ≡ got (j .overrides) families-at
-  pub families : counted 64 (readFamily (length (j .faces))) s families-at ≡ got (j .families) requests-at
-  pub requests : counted 256 readRequest s requests-at ≡ got (j .requests) end
+  pub faces : counted 256 readFace s 0 ≡ got (j .faces) (overridesPlace s)
+  pub overrides : counted 256 (readOverride (length (j .faces))) s (overridesPlace s) ≡ got (j .overrides) (familiesPlace s)
+  pub families : counted 64 (readFamily (length (j .faces))) s (familiesPlace s) ≡ got (j .families) (requestsPlace s)
+  pub requests : counted 256 readRequest s (requestsPlace s) ≡ got (j .requests) end
+
+place-of : {A : Type 0} {g : Got A} {x : A} {q : ℕ} → g ≡ got x q → q ≡ ended g .at
+unfolding ended
+place-of e = sym (ap (λ g. ended g .at) e)
+
+module _ (s : List ℕ) (fs : List Entry.Face) (os : List Entry.Override) (ms : List Family) (rs : List Entry.Request) (t u v w : ℕ)
+    (short : length s ≤ 16777216)
+    (faces : counted 256 readFace s 0 ≡ got fs t)
+    (overrides : counted 256 (readOverride (length fs)) s t ≡ got os u)
+    (families : counted 64 (readFamily (length fs)) s u ≡ got ms v)
+    (requests : counted 256 readRequest s v ≡ got rs w) where
+  overrides-there : t ≡ overridesPlace s
+  unfolding overridesPlace
+  overrides-there = place-of faces
+
+  families-there : u ≡ familiesPlace s
+  unfolding familiesPlace
+  families-there = place-of (rw (counted-length 256 readFace s 0 fs t faces, overrides-there) at overrides)
+
+  requests-there : v ≡ requestsPlace s
+  unfolding requestsPlace
+  requests-there = rw families-there at (families-read (length fs) s u ms v families .entries .end)
+
+  put-together : Laid s (record { faces = fs; overrides = os; families = ms; requests = rs }) w
+  put-together =
+      record {
+        short = short;
+        faces = rw overrides-there at faces;
+        overrides = rw (overrides-there, families-there) at overrides;
+        families = rw (families-there, requests-there) at families;
+        requests = rw requests-there at requests
+      }
 
 carried : (s : List ℕ) (j k : Job) (e t : ℕ) → j ≡ k → e ≡ t → Laid s k t → Laid s j e
 carried s j k e t f g h = rw (f, g) h
@@ -60,16 +89,7 @@ sections-laid s j e l h =
     let k : Job = record { faces = a .0; overrides = b .0; families = c .0; requests = d .0 } in
     let z = ended-at j k s (d .1) e (d .3) in
     carried s j k e (d .1) (z .0) (z .1)
-    (record {
-      short = l;
-      overrides-at = a .1;
-      families-at = b .1;
-      requests-at = c .1;
-      faces = a .2;
-      overrides = b .2;
-      families = c .2;
-      requests = d .2
-    })
+    (put-together s (a .0) (b .0) (c .0) (d .0) (a .1) (b .1) (c .1) (d .1) l (a .2) (b .2) (c .2) (d .2))
 
 pub laid : (s : List ℕ) (j : Job) (e : ℕ) → readJob s ≡ got j e → Laid s j e
 unfolding readJob
@@ -85,6 +105,10 @@ laid s j e = go (leb (length s) 16777216) refl
 abbrev pub Loaded : List ℕ → ℕ → ℕ → List ℕ → Type 0
 Loaded s at n positions = (i : ℕ) → i < n → getD positions i 0 ≡ familyPlace s at i
 
+member-there : (s : List ℕ) (at i : ℕ) → i < length (membersAt s at) → getD (membersAt s at) i 0 ≡ u16At s (at + 2 + 2 * i)
+unfolding membersAt
+member-there s at i c = number-at s (at + 2) (u16At s at) i (omega (arith, numbers-length s (at + 2) (u16At s at)))
+
 member-below : (s : List ℕ) (faces at i : ℕ) → FamilyKnown s faces at → i < length (membersAt s at) → getD (membersAt s at) i 0 < faces
 unfolding membersAt
 member-below s faces at i h c =
@@ -93,54 +117,55 @@ member-below s faces at i h c =
 
 module _ (s : List ℕ) (j : Job) (e : ℕ) (l : Laid s j e) where
   pub faces-count : (length (j .faces) ≡ u16At s 0) × (length (j .faces) ≤ 256)
-  faces-count = (counted-length 256 readFace s 0 (j .faces) (l .overrides-at) (l .faces), count-few 256 readFace s 0 (j .faces) (l .overrides-at) (l .faces))
+  faces-count = (counted-length 256 readFace s 0 (j .faces) (overridesPlace s) (l .faces), count-few 256 readFace s 0 (j .faces) (overridesPlace s) (l .faces))
 
-  of-families : Section (familyAt s) (afterFamily s) (FamilyIn s (length (j .faces))) s 64 (l .families-at) (j .families) (l .requests-at)
-  of-families = families-read (length (j .faces)) s (l .families-at) (j .families) (l .requests-at) (l .families)
+  of-families : Section (familyAt s) (afterFamily s) (FamilyIn s (length (j .faces))) s 64 (familiesPlace s) (j .families) (requestsPlace s)
+  of-families = families-read (length (j .faces)) s (familiesPlace s) (j .families) (requestsPlace s) (l .families)
 
-  of-requests : Section (requestAt s) (afterRequest s) (RequestIn s) s 256 (l .requests-at) (j .requests) e
-  of-requests = requests-read s (l .requests-at) (j .requests) e (l .requests)
+  of-requests : Section (requestAt s) (afterRequest s) (RequestIn s) s 256 (requestsPlace s) (j .requests) e
+  of-requests = requests-read s (requestsPlace s) (j .requests) e (l .requests)
 
   -- what `load_families` asks, and where it ends
-  pub families-count : length (j .families) ≡ u16At s (l .families-at)
+  pub families-count : length (j .families) ≡ u16At s (familiesPlace s)
   families-count = of-families .count
 
   pub families-few : length (j .families) ≤ 64
   families-few = omega (arith, of-families .count, of-families .few)
 
-  pub families-end : l .requests-at ≡ familyPlace s (l .families-at + 2) (length (j .families))
-  families-end = of-families .entries .end ∙ ap (familyPlace s (l .families-at + 2)) (sym families-count)
+  pub families-end : requestsPlace s ≡ familyPlace s (familiesPlace s + 2) (length (j .families))
+  unfolding requestsPlace
+  families-end = ap (familyPlace s (familiesPlace s + 2)) (sym families-count)
 
-  pub families-inside : familyPlace s (l .families-at + 2) (length (j .families)) ≤ length s
+  pub families-inside : familyPlace s (familiesPlace s + 2) (length (j .families)) ≤ length s
   families-inside =
       omega
-      (arith, families-end, run-in (familyAt s) (afterFamily s) (FamilyIn s (length (j .faces))) (length s) (λ p h. h .0) (u16At s (l .families-at)) (l .families-at + 2)
-        (j .families) (l .requests-at) (of-families .start) (of-families .entries))
+      (arith, families-end, run-in (familyAt s) (afterFamily s) (FamilyIn s (length (j .faces))) (length s) (λ p h. h .0) (u16At s (familiesPlace s)) (familiesPlace s + 2)
+        (j .families) (requestsPlace s) (of-families .start) (of-families .entries))
 
-  family-known : (f : ℕ) → f < length (j .families) → FamilyKnown s (length (j .faces)) (familyPlace s (l .families-at + 2) f)
+  family-known : (f : ℕ) → f < length (j .families) → FamilyKnown s (length (j .faces)) (familyPlace s (familiesPlace s + 2) f)
   family-known f b = of-families .entries .known f (omega (arith, families-count)) .1
 
-  members-are : (f : ℕ) → f < length (j .families) → membersOf j f ≡ membersAt s (familyPlace s (l .families-at + 2) f)
+  members-are : (f : ℕ) → f < length (j .families) → membersOf j f ≡ membersAt s (familyPlace s (familiesPlace s + 2) f)
   unfolding membersOf familyAt
   members-are f b =
       ap (λ (x : Family). x .members) (of-families .entries .each f (record { members = [] }) (omega (arith, families-count)))
 
   -- what `request_at` and `requested` ask
-  pub requests-count : length (j .requests) ≡ u16At s (l .requests-at)
+  pub requests-count : length (j .requests) ≡ u16At s (requestsPlace s)
   requests-count = of-requests .count
 
-  pub request-is : (k : ℕ) (d : Entry.Request) → k < length (j .requests) → getD (j .requests) k d ≡ requestAt s (requestPlace s (l .requests-at + 2) k)
+  pub request-is : (k : ℕ) (d : Entry.Request) → k < length (j .requests) → getD (j .requests) k d ≡ requestAt s (requestPlace s (requestsPlace s + 2) k)
   request-is k d b = of-requests .entries .each k d (omega (arith, requests-count))
 
-  pub request-known : (k : ℕ) → k < length (j .requests) → RequestedKnown s (requestPlace s (l .requests-at + 2) k + 2)
+  pub request-known : (k : ℕ) → k < length (j .requests) → RequestedKnown s (requestPlace s (requestsPlace s + 2) k + 2)
   request-known k b = of-requests .entries .known k (omega (arith, requests-count)) .1
 
   -- what `request_offer` asks
   pub request-inside : (k : ℕ) → k < length (j .requests)
-      → (requestPlace s (l .requests-at + 2) k + 15 < length s) × (fallbacksAt s (requestPlace s (l .requests-at + 2) k + 15) < length s)
-  request-inside k b = request-in s (requestPlace s (l .requests-at + 2) k) (of-requests .entries .known k (omega (arith, requests-count)) .0)
+      → (requestPlace s (requestsPlace s + 2) k + 15 < length s) × (fallbacksAt s (requestPlace s (requestsPlace s + 2) k + 15) < length s)
+  request-inside k b = request-in s (requestPlace s (requestsPlace s + 2) k) (of-requests .entries .known k (omega (arith, requests-count)) .0)
 
-  module _ (positions : List ℕ) (loaded : Loaded s (l .families-at + 2) (length (j .families)) positions) where
+  module _ (positions : List ℕ) (loaded : Loaded s (familiesPlace s + 2) (length (j .families)) positions) where
     pub small : Small s positions (length (j .families))
     small =
         record {
@@ -155,9 +180,13 @@ module _ (s : List ℕ) (j : Job) (e : ℕ) (l : Laid s j e) where
     pub same-members : (f : ℕ) → f < length (j .families) → membersAt s (getD positions f 0) ≡ membersOf j f
     same-members f b = ap (membersAt s) (loaded f b) ∙ sym (members-are f b)
 
+    -- the number of the face at a place of a family
+    pub member-is : (f i : ℕ) → f < length (j .families) → i < length (membersOf j f) → getD (membersOf j f) i 0 ≡ u16At s (getD positions f 0 + 2 + 2 * i)
+    member-is f i b = rw (sym (same-members f b)) (member-there s (getD positions f 0) i)
+
   -- every member of every family is a face of the job
   pub members-below : (f i : ℕ) → f < length (j .families) → i < length (membersOf j f) → getD (membersOf j f) i 0 < length (j .faces)
-  members-below f i b = rw (members-are f b) (member-below s (length (j .faces)) (familyPlace s (l .families-at + 2) f) i (family-known f b))
+  members-below f i b = rw (members-are f b) (member-below s (length (j .faces)) (familyPlace s (familiesPlace s + 2) f) i (family-known f b))
 
 -- ---- the offers look at no more
 
@@ -223,7 +252,7 @@ module _ (n : ℕ) (a b : Faces) (same : SameFaces n a b) where
 
 -- ---- the offers of a request of the job
 
-module _ (s : List ℕ) (j : Job) (e : ℕ) (l : Laid s j e) (positions : List ℕ) (loaded : Loaded s (l .families-at + 2) (length (j .families)) positions) where
+module _ (s : List ℕ) (j : Job) (e : ℕ) (l : Laid s j e) (positions : List ℕ) (loaded : Loaded s (familiesPlace s + 2) (length (j .families)) positions) where
   pub same-families : SameFamilies (length (j .faces)) (familiesAt s positions (length (j .families))) (familiesOf j)
   unfolding familiesAt familiesOf
   same-families =
@@ -231,7 +260,7 @@ module _ (s : List ℕ) (j : Job) (e : ℕ) (l : Laid s j e) (positions : List �
 
   -- on faces that agree with the job's, what `request_offer` looks in is the list of the request's offers
   pub offered : (faces : Faces) → SameFaces (length (j .faces)) faces (facesOf (fontOf j) (heldOf j))
-      → (k at : ℕ) (d : Entry.Request) → k < length (j .requests) → at ≡ requestPlace s (l .requests-at + 2) k
+      → (k at : ℕ) (d : Entry.Request) → k < length (j .requests) → at ≡ requestPlace s (requestsPlace s + 2) k
       → offers faces (familiesAt s positions (length (j .families))) (requestOf (requestedAt s (at + 2)) true) (u16At s at)
         (listAt s (at + 15)) (listAt s (fallbacksAt s (at + 15)))
         ≡ offersOf j (getD (j .requests) k d)

@@ -14,7 +14,9 @@ use Rattle.font.specs.declared.attributes.Angle.{Angle}
 use Rattle.font.specs.declared.attributes.Angle.the-variants.{Unstated, Degrees}
 use Rattle.font.specs.declared.attributes.FontStyle.{FontStyle}
 use Rattle.font.specs.declared.attributes.Attributes.{Attributes}
-use Rattle.query.specs.Entries.{styleOfKind, Family, Request}
+use Rattle.query.specs.Reader.{ended}
+use Rattle.query.specs.Fields.{counted}
+use Rattle.query.specs.Entries.{styleOfKind, Family, Request, readFace, readOverride}
 use Rattle.query.specs.Offers.{membersAt, listAt, fallbacksAt}
 
 -- where the i-th of some entries begins, which lie one after another
@@ -38,6 +40,20 @@ familyAt job at = record { members = membersAt job at }
 pub record FamilyKnown (job : List ℕ) (faces at : ℕ) : Type 0 where
   pub short : u16At job at ≤ 64
   pub known : (i : ℕ) → i < u16At job at → u16At job (at + 2 + 2 * i) < faces
+
+-- ---- sections: "Four sections, each after a 16-bit count". Those of an accepted job.
+
+-- where the count of the overrides lies: after the faces
+unfoldable pub overridesPlace : List ℕ → ℕ
+overridesPlace job = ended (counted 256 readFace job 0) .at
+
+-- where the count of the families lies: after the overrides
+unfoldable pub familiesPlace : List ℕ → ℕ
+familiesPlace job = ended (counted 256 (readOverride (u16At job 0)) job (overridesPlace job)) .at
+
+-- where the count of the requests lies: after the families
+unfoldable pub requestsPlace : List ℕ → ℕ
+requestsPlace job = familyPlace job (familiesPlace job + 2) (u16At job (familiesPlace job))
 
 -- ---- requests: "16-bit most offers, ratio, style, weight, then two lists (families, fallbacks), each a byte count and 16-bit numbers"
 

@@ -1,18 +1,37 @@
 // Where the families and the requests of an accepted job lie, and a request's attributes.
 ghost use mathlib.Core.Path.{_≡_};
 ghost use mathlib.Core.Bool.{true};
-ghost use Prim.Native.Nat.{ℕ, _+_, _≤_, _<_};
+ghost use Prim.Native.Nat.{ℕ, _+_, _*_, _≤_, _<_};
 ghost use lib.ListN.{length, getD};
 ghost use lib.Ieee.Scale.{finite};
+ghost use Rattle.font.specs.Tables.{u16At};
 ghost use Rattle.query.specs.Offers.{fallbacksAt};
-ghost use Rattle.query.specs.Located.{familyPlace, requestPlace, singleAt, styleAt, StyleKnown, requestedAt, RequestedKnown};
+ghost use Rattle.query.specs.Located.{overridesPlace, familiesPlace, familyPlace, requestPlace, singleAt, styleAt, StyleKnown, requestedAt, RequestedKnown};
 use crate::fields;
+use crate::offers;
+use crate::sections;
 use font::attributes::Angle;
 use font::attributes::Attributes;
 use font::attributes::FontStyle;
 use font::attributes::FontWeight;
 use font::attributes::FontWidth;
 use font::tables;
+
+// Where the section of the overrides lies, in an accepted job.
+pub fn overrides_at(job: &[u8]) -> usize
+    ensures { λ r. ⌜ r ≡ overridesPlace (now (job .entry)) ⌝ }
+{
+    let faces = sections::faces(job, 0);
+    faces.at
+}
+
+// Where the section of the families lies, in an accepted job.
+pub fn families_at(job: &[u8]) -> usize
+    ensures { λ r. ⌜ r ≡ familiesPlace (now (job .entry)) ⌝ }
+{
+    let overrides = sections::overrides(job, overrides_at(job), tables::u16_at(job, 0));
+    overrides.at
+}
 
 // The positions of `count` families, of which the first lies at a position; and the position after the last.
 pub fn load_families(job: &[u8], at: usize, count: usize, family_at: &mut [u32; 64]) -> usize
@@ -86,4 +105,14 @@ pub fn requested(job: &[u8], at: usize) -> Attributes
     let style = style_at(job, at + 4);
     let weight = FontWeight::new(single_at(job, at + 9));
     Attributes::new(width, style, weight)
+}
+
+// The number of the face at a place of a family, by the positions of the families.
+pub fn member_at(job: &[u8], family_at: &[u32; 64], family: u16, place: u16) -> u16
+    requires { ⌜ family < 64 ⌝ }
+    ensures { λ r. ⌜ r ≡ u16At (now (job .entry)) (getD (now («family_at» .entry)) family 0 + 2 + 2 * place) ⌝ }
+{
+    let number = family as usize;
+    let at = offers::wide(family_at[number]);
+    tables::u16_at(job, at + 2 + 2 * (place as usize))
 }

@@ -152,7 +152,7 @@ fn members_offer(job: &[u8], at: usize, count: usize, percents: &[u32; 256], sty
 }
 
 // A 32-bit number, which its own type bounds.
-fn wide(x: u32) -> usize
+pub fn wide(x: u32) -> usize
     ensures { λ r. ⌜ (r ≡ x) × (x < 2 ^ 32) ⌝ }
 {
     x as usize
