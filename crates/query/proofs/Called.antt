@@ -8,11 +8,16 @@ use lib.Dec.{ltb, eqb}
 use lib.ListN.{length, getD}
 use borrow.Author.Tests.{eq-eqb, ne-eqb, lt-ltb, le-ltb}
 use Rattle.font.specs.Tables.{u16At}
+use lib.IntN.{ℤ}
 use Rattle.matching.specs.Matching.{requestOf}
+use Rattle.matching.specs.declared.synthesis.Setting.{Setting}
+use Rattle.matching.specs.declared.synthesis.Setting.the-variants.{Unset, Set}
+use Rattle.matching.specs.Synthesis.{unvaried, put, added, synthesized}
 use Rattle.query.specs.declared.offers.Offer.{Offer}
 use Rattle.query.specs.declared.offers.Offered.{Offered}
 use Rattle.query.specs.declared.offers.Offered.the-variants as Offered'
 use Rattle.query.specs.Reader.{Got, refused, got}
+use Rattle.query.specs.Entries.{Request}
 use Rattle.query.specs.Job.{Job, readJob, answer, checkJob}
 use Rattle.query.specs.Offers.{Faces, facesOf, offers, offerAt, familiesAt, listAt, fallbacksAt}
 use Rattle.query.specs.Sheet.{fontOf, heldOf, offersOf, faceOfOffer, synthesisOfOffer}
@@ -114,3 +119,19 @@ kept s k n out = first (eqb (length out) 40) (readJob s)
         (third j (offerAt (offersOf j (requestOfJob j k)) n)) 28 h
     first : (b : Bool) (g : Got Job) → (cond b (jobCall g k n out) (unwritten 16 out) .result ≡ 0 → ⊥) → cond b (jobCall g k n out) (unwritten 16 out) .output ≡ out
     first b g h = second b (jobCall g k n out) (of-job g) 16 h
+
+-- Width, weight and style each set at most one axis, so an offer's synthesis has no fourth setting: 29 is in the table, and no job leads to it.
+three : (b : Bool) (k : ℤ) (x y z : Setting) → added (added (added (unvaried 0 b k) x) y) z .refusal ≡ 0
+unfolding added put unvaried
+three b k Unset Unset Unset = refl
+three b k Unset Unset (Set t v) = refl
+three b k Unset (Set t v) Unset = refl
+three b k Unset (Set t v) (Set u w) = refl
+three b k (Set t v) Unset Unset = refl
+three b k (Set t v) Unset (Set u w) = refl
+three b k (Set t v) (Set u w) Unset = refl
+three b k (Set t v) (Set u w) (Set c d) = refl
+
+pub no-fourth : (j : Job) (r : Request) (o : Offer) → synthesisOfOffer j r o .refusal ≡ 0
+unfolding synthesisOfOffer synthesized
+no-fourth j r o = three _ _ _ _ _

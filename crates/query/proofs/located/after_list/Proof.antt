@@ -1,12 +1,11 @@
+-- `query::located::after_list` meets its contract.
+-- Assumes nothing.
 use Prim.Native.Nat.{_+_, _*_}
 use native.Mathlib.Omega.{arith}
 use borrow.Author.Needs.{needs}
 use Rattle.query.specs.Offers.{fallbacksAt}
 use Rattle.query.proofs.located.after_list.Statement.{statement}
 use Rattle.query.proofs.located.after_list.Tie as tie
-use Rattle.query.proofs.located.after_list.Reads as reads
-use Rattle.query.proofs.located.after_list.Lts as lts
-use Rattle.query.proofs.fields.byte_at.Reads as byte-at-reads
 
 add-result : tie.Need-add-result
 unfolding fallbacksAt

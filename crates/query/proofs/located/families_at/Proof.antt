@@ -1,3 +1,5 @@
+-- `query::located::families_at` meets its contract.
+-- Assumes nothing.
 use mathlib.Core.Path.{_≡_, ap, _∙_}
 use borrow.Author.Needs.{needs}
 use Rattle.query.specs.declared.fields.At.{At}

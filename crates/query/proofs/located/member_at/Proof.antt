@@ -1,3 +1,5 @@
+-- `query::located::member_at` meets its contract.
+-- Assumes nothing.
 use Prim.Native.Nat.{ℕ, _+_, _*_}
 use mathlib.Core.Path.{_≡_, ap, _∙_}
 use denote.Ref.{now}

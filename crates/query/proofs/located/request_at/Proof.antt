@@ -1,3 +1,6 @@
+-- `query::located::request_at` meets its contract. The loop's invariant: `place` is the position of the request `i`. The measure is the number of
+-- requests left to skip.
+-- Assumes nothing.
 use Prim.Native.Nat.{ℕ, _+_, _-_, _≤_, _<_}
 use mathlib.Core.Path.{_≡_, refl, sym, ap, _∙_}
 use native.Mathlib.Omega.{arith}
@@ -9,9 +12,6 @@ use Rattle.query.specs.Located.{placeOf, afterRequest, requestPlace}
 use Rattle.query.proofs.Runs.{place-first, within, request-grows, request-next, request-in}
 use Rattle.query.proofs.located.request_at.Statement.{statement}
 use Rattle.query.proofs.located.request_at.Tie as tie
-use Rattle.query.proofs.located.request_at.Reads as reads
-use Rattle.query.proofs.located.request_at.Lts as lts
-use Rattle.query.proofs.located.after_list.Reads as after-list-reads
 
 abbrev Inv-loop : tie.InvT-loop
 Inv-loop job at number place₀ i₀ place i = (i ≤ number) × (place ≡ requestPlace job at i)
@@ -19,11 +19,9 @@ Inv-loop job at number place₀ i₀ place i = (i ≤ number) × (place ≡ requ
 abbrev μ-loop : tie.MeasureT-loop
 μ-loop job at number place₀ i₀ place i = number - i
 
--- src/located.rt:47:5
 loop-holds : tie.Need-loop-holds Inv-loop μ-loop
 loop-holds c = (omega arith, sym (place-first _ _))
 
--- src/located.rt:48:49
 add-after-list : tie.Need-add-after-list Inv-loop μ-loop
 add-after-list c =
     let a = c .before .before .before .args in
@@ -31,7 +29,6 @@ add-after-list c =
     let h = within (afterRequest (now (a .job))) (request-grows (now (a .job))) (a .at) (l .i) (a .number) (length (now (a .job))) (c .loop-test .taken) (c .before .before .before .pre) in
     omega (arith, l .inv .1, request-in (now (a .job)) (requestPlace (now (a .job)) (a .at) (l .i)) h)
 
--- src/located.rt:48:33
 after-list-requires : tie.Need-after-list-requires Inv-loop μ-loop
 after-list-requires c κs =
     let a = c .before .before .before .args in
@@ -39,7 +36,6 @@ after-list-requires c κs =
     let h = within (afterRequest (now (a .job))) (request-grows (now (a .job))) (a .at) (l .i) (a .number) (length (now (a .job))) (c .loop-test .taken) (c .before .before .before .pre) in
     rw (l .inv .1) (omega (arith, request-in (now (a .job)) (requestPlace (now (a .job)) (a .at) (l .i)) h))
 
--- src/located.rt:48:9
 after-list-requires-2 : tie.Need-after-list-requires-2 Inv-loop μ-loop
 unfolding afterRequest
 after-list-requires-2 c κs =
@@ -48,15 +44,12 @@ after-list-requires-2 c κs =
     let h = within (afterRequest (now (a .job))) (request-grows (now (a .job))) (a .at) (l .i) (a .number) (length (now (a .job))) (c .before .loop-test .taken) (c .before .before .before .before .pre) in
     rw (c .after-list .ensures, l .inv .1) h
 
--- src/located.rt:49:9
 add-i : tie.Need-add-i Inv-loop μ-loop
 add-i c = omega arith
 
--- src/located.rt:47:5
 loop-less : tie.Need-loop-less Inv-loop μ-loop
 loop-less c = omega arith
 
--- src/located.rt:47:5
 loop-again : tie.Need-loop-again Inv-loop μ-loop
 loop-again c =
     let a = c .before .before .before .before .before .args in
@@ -66,7 +59,6 @@ loop-again c =
       (l .inv .1) (c .before .after-list .ensures) (c .after-list2 .ensures)
     )
 
--- src/located.rt:41:1
 returns : tie.Need-returns Inv-loop μ-loop
 returns c =
     let a = c .before .before .before .args in

@@ -1,3 +1,5 @@
+-- `query::located::requested` meets its contract.
+-- Assumes nothing.
 use mathlib.Core.Path.{_≡_, refl, sym, ap, _∙_}
 use lib.Ieee.{Float}
 use Rattle.font.specs.Attributes.{attributesOf}
@@ -7,13 +9,6 @@ use Rattle.query.specs.Located.{requestedAt}
 use Rattle.query.proofs.Singles.{accepted-finite}
 use Rattle.query.proofs.located.requested.Statement.{statement}
 use Rattle.query.proofs.located.requested.Tie as tie
-use Rattle.query.proofs.located.requested.Reads as reads
-use Rattle.query.proofs.located.requested.Lts as lts
-use Rattle.font.proofs.attributes.Attributes.new.Reads as attributes-Attributes-new-reads
-use Rattle.font.proofs.attributes.FontWeight.new.Reads as attributes-FontWeight-new-reads
-use Rattle.font.proofs.attributes.FontWidth.new.Reads as attributes-FontWidth-new-reads
-use Rattle.query.proofs.located.single_at.Reads as single-at-reads
-use Rattle.query.proofs.located.style_at.Reads as style-at-reads
 
 made : {a b : Float} {x y : FontStyle} {d e : Float} → a ≡ b → x ≡ y → d ≡ e → attributesOf a x d ≡ attributesOf b y e
 made p q r = λ k. attributesOf (p k) (q k) (r k)

@@ -1,3 +1,5 @@
+-- `query::located::single_at` meets its contract: the bits of a finite single are no NaN's.
+-- Assumes nothing.
 use mathlib.Core.Path.{_≡_, sym, ap, _∙_}
 use lib.Ieee.{binary32, ofBits}
 use borrow.Author.Needs.{needs}
@@ -5,9 +7,6 @@ use Rattle.query.specs.Located.{singleAt}
 use Rattle.query.proofs.Singles.{finite-no-nan}
 use Rattle.query.proofs.located.single_at.Statement.{statement}
 use Rattle.query.proofs.located.single_at.Tie as tie
-use Rattle.query.proofs.located.single_at.Reads as reads
-use Rattle.query.proofs.located.single_at.Lts as lts
-use Rattle.font.proofs.tables.u32_at.Reads as u32-at-reads
 
 u32-at-requires : tie.Need-u32-at-requires
 u32-at-requires c κs = search needs

@@ -1,3 +1,5 @@
+-- `query::located::style_at` meets its contract, a law for each kind.
+-- Assumes nothing.
 use Prim.Native.Nat.{ℕ, _+_}
 use mathlib.Core.Path.{_≡_, refl, sym, ap, _∙_}
 use mathlib.Core.List.{List}
@@ -12,10 +14,6 @@ use Rattle.query.specs.Entries.{styleOfKind}
 use Rattle.query.specs.Located.{singleAt, styleAt}
 use Rattle.query.proofs.located.style_at.Statement.{statement}
 use Rattle.query.proofs.located.style_at.Tie as tie
-use Rattle.query.proofs.located.style_at.Reads as reads
-use Rattle.query.proofs.located.style_at.Lts as lts
-use Rattle.query.proofs.fields.byte_at.Reads as byte-at-reads
-use Rattle.query.proofs.located.single_at.Reads as single-at-reads
 
 module _ (s : List ℕ) (at k : ℕ) (kind : k ≡ getD s at 0) where
   normal : k ≡ 0 → Normal ≡ styleAt s at
