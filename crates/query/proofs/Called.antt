@@ -23,9 +23,10 @@ use Rattle.query.specs.Offers.{Faces, facesOf, offers, offerAt, families
 use Rattle.query.specs.Sheet.{fontOf, heldOf, offersOf, faceOfOffer, synthesisOfOffer}
 use Rattle.query.specs.Record.{recordBytes}
 use Rattle.query.specs.Located.{familiesPlace, requestsPlace, requestPlace, requestedAt}
+use Rattle.query.specs.Answer.{SameFaces}
 use Rattle.query.specs.Call.{Called, unwritten, requestOfJob, offerWritten, answered, requestCall, jobCall, offerCall}
 use Rattle.query.proofs.Ends.{number-nonzero}
-use Rattle.query.proofs.Glued.{Laid, Loaded, SameFaces, offered}
+use Rattle.query.proofs.Glued.{Laid, Loaded, offered}
 
 -- a job that the check call accepts
 pub accepted-job : (s : List ℕ) → checkJob s .refusal ≡ 0 → (j : Job) × (e : ℕ) × (readJob s ≡ got j e)
@@ -69,7 +70,7 @@ module _ (s : List ℕ) (k n : ℕ) (out : List ℕ) where
             (same : SameFaces (length (j .faces)) faces (facesOf (fontOf j) (heldOf j))) (at : ℕ) (place : at ≡ requestPlace s (requestsPlace s + 2) k)
             (answer : Offered)
             (found : answer ≡ offerAt (offers faces (familiesAt s positions (length (j .families))) (requestOf (requestedAt s (at + 2)) true) (u16At s at)
-              (listAt s (at + 15)) (listAt s (fallbacksAt s (at + 15)))) n) where
+            (listAt s (at + 15)) (listAt s (fallbacksAt s (at + 15)))) n) where
           answer-is : offerCall s k n out ≡ answered j (requestOfJob j k) out answer
           unfolding requestOfJob
           answer-is =
@@ -103,20 +104,24 @@ kept s k n out = first (eqb (length out) 40) (readJob s)
         → cond b (unwritten 29 out) (record { result = 0; output = bytes }) .output ≡ out
     fourth true bytes h = refl
     fourth false bytes h = absurd (h refl)
+
     third : (j : Job) (o : Offered) → (answered j (requestOfJob j k) out o .result ≡ 0 → ⊥) → answered j (requestOfJob j k) out o .output ≡ out
     third j (Offered'.At o) h =
         fourth (eqb (synthesisOfOffer j (requestOfJob j k) o .refusal) 29)
         (recordBytes o (synthesisOfOffer j (requestOfJob j k) o) (faceOfOffer j o .«charmap_index»)) h
     third j Offered'.Past h = refl
+
     second : (b : Bool) (c : Called) → ((c .result ≡ 0 → ⊥) → c .output ≡ out) → (m : ℕ)
         → (cond b c (unwritten m out) .result ≡ 0 → ⊥) → cond b c (unwritten m out) .output ≡ out
     second true c f m h = f h
     second false c f m h = refl
+
     of-job : (g : Got Job) → (jobCall g k n out .result ≡ 0 → ⊥) → jobCall g k n out .output ≡ out
     of-job (refused w p) h = refl
     of-job (got j p) h =
         second (ltb k (length (j .requests))) (answered j (requestOfJob j k) out (offerAt (offersOf j (requestOfJob j k)) n))
         (third j (offerAt (offersOf j (requestOfJob j k)) n)) 28 h
+
     first : (b : Bool) (g : Got Job) → (cond b (jobCall g k n out) (unwritten 16 out) .result ≡ 0 → ⊥) → cond b (jobCall g k n out) (unwritten 16 out) .output ≡ out
     first b g h = second b (jobCall g k n out) (of-job g) 16 h
 

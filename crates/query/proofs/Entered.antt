@@ -55,15 +55,16 @@ module _ (ok : ℕ → Bool) (r : Reader ℕ) (s : List ℕ) (read : (p a q : �
   numbers-read n p xs q e =
       record {
         values =
-          ext-getD 0 xs (numbersAt s p n) (long ∙ sym (numbers-length s p n))
-          (λ i l. let b : i < n = omega (arith, long) in all .each i 0 b ∙ ap (u16At s) (number-place p i) ∙ sym (number-at s p n i b));
+            ext-getD 0 xs (numbersAt s p n) (long ∙ sym (numbers-length s p n))
+            (λ i l. let b : i < n = omega (arith, long) in all .each i 0 b ∙ ap (u16At s) (number-place p i) ∙ sym (number-at s p n i b));
         passed = λ i l. rw (number-place p i) at (all .known i l .1);
         end = all .end ∙ number-place p n;
-        inside = λ l. run-in (u16At s) (λ t. t + 2) Passed (length s) (λ t h. h .0) n p xs q l all
+        inside = λ l. run-in (u16At s) (λ t. t + 2) Passed (length s) (λ t h. h .0) n p xs q l all;
       }
     where
       all : Run (u16At s) (λ t. t + 2) Passed n p xs q
       all = run (u16At s) (λ t. t + 2) Passed r s number-one n p xs q e
+
       long : length xs ≡ n
       long = many-length r n s p xs q e
 
@@ -88,13 +89,13 @@ family-one faces s p a q e =
     record {
       value = same ∙ ap (λ (l : List ℕ). record { members = l }) (m .values);
       end = last ∙ m .end;
-      known =
-        ( omega (arith, m .end, m .inside (c .inside))
-        , record {
-            short = omega (arith, c .value, leb-true (g .0) 64 (c .passed));
-            known = λ i l. ltb-true (u16At s (p + 2 + 2 * i)) faces (m .passed i l)
-          }
-        )
+      known = (
+        omega (arith, m .end, m .inside (c .inside)),
+        record {
+          short = omega (arith, c .value, leb-true (g .0) 64 (c .passed));
+          known = λ i l. ltb-true (u16At s (p + 2 + 2 * i)) faces (m .passed i l);
+        },
+      );
     }
 
 -- ---- a request
@@ -153,7 +154,7 @@ style-one s p a q e =
     record {
       style = same ∙ ap (λ (k : ℕ). styleOfKind k (g .0)) (c .value) ∙ ap (styleOfKind (getD s p 0)) (m .angle);
       end = omega (arith, last, m .end);
-      known = record { inside = omega (arith, m .inside); angle = λ k. m .known (eq-eqb (getD s p 0) 3 k) }
+      known = record { inside = omega (arith, m .inside); angle = λ k. m .known (eq-eqb (getD s p 0) 3 k) };
     }
 
 moved-style : {s : List ℕ} {p t : ℕ} {a : FontStyle} {q : ℕ} → p ≡ t → Styled s p a q → Styled s t a q
@@ -187,12 +188,12 @@ requested-one s p a q e =
       attributes = same ∙ made (w .value) (t .style) weight;
       end = omega (arith, last, v .next, place);
       known =
-        record {
-          inside = omega (arith, v .inside, place);
-          width = rw (w .value) at (w .passed);
-          style = t .known;
-          weight = rw weight at (v .passed)
-        }
+          record {
+            inside = omega (arith, v .inside, place);
+            width = rw (w .value) at (w .passed);
+            style = t .known;
+            weight = rw weight at (v .passed);
+          };
     }
 
 abbrev pub RequestIn : List ℕ → ℕ → Type 0
@@ -222,7 +223,7 @@ request-one s p a q e =
     record {
       value = same ∙ entry (m .value) (r .attributes) (x .values) (y .values);
       end = last ∙ y .end;
-      known = (rw (y .end) at (y .inside), r .known)
+      known = (rw (y .end) at (y .inside), r .known);
     }
 
 -- ---- entries of a section
@@ -265,7 +266,7 @@ section v next Known r s all limit p xs q e =
       count = counted-length limit r s p xs q e;
       few = omega (arith, c .value, leb-true (g .0) limit (c .passed));
       start = c .inside;
-      entries = moved-run (c .value) (c .next) (all (g .0) (g .1) xs q (g .3))
+      entries = moved-run (c .value) (c .next) (all (g .0) (g .1) xs q (g .3));
     }
 
 pub families-read : (faces : ℕ) (s : List ℕ) (p : ℕ) (fs : List Family) (q : ℕ) → counted 64 (readFamily faces) s p ≡ got fs q

@@ -21,6 +21,7 @@ use Rattle.query.specs.Job.{Job, atEnd, readSections, readJob}
 use Rattle.query.specs.Offers.{Faces, Families, facesOf, groupOf, familyOffers, offerOf, numberOffers, inTurn, offers, membersAt, familiesAt, listAt, fallbacksAt, Small}
 use Rattle.query.specs.Sheet.{fontOf, heldOf, membersOf, familiesOf, offersOf}
 use Rattle.query.specs.Located.{placeOf, afterFamily, familyPlace, overridesPlace, familiesPlace, requestsPlace, familyAt, FamilyKnown, afterRequest, requestPlace, requestedAt, RequestedKnown, requestAt}
+use Rattle.query.specs.Answer.{SameFaces}
 use Rattle.query.proofs.Ends.{then-got}
 use Rattle.query.proofs.Leaves.{counted-length, count-read}
 use Rattle.query.proofs.Gathered.{numbers-length, number-at}
@@ -65,7 +66,7 @@ module _ (s : List ℕ) (fs : List Entry.Face) (os : List Entry.Override) (ms : 
         faces = rw overrides-there at faces;
         overrides = rw (overrides-there, families-there) at overrides;
         families = rw (families-there, requests-there) at families;
-        requests = rw requests-there at requests
+        requests = rw requests-there at requests;
       }
 
 carried : (s : List ℕ) (j k : Job) (e t : ℕ) → j ≡ k → e ≡ t → Laid s k t → Laid s j e
@@ -138,9 +139,18 @@ module _ (s : List ℕ) (j : Job) (e : ℕ) (l : Laid s j e) where
 
   pub families-inside : familyPlace s (familiesPlace s + 2) (length (j .families)) ≤ length s
   families-inside =
-      omega
-      (arith, families-end, run-in (familyAt s) (afterFamily s) (FamilyIn s (length (j .faces))) (length s) (λ p h. h .0) (u16At s (familiesPlace s)) (familiesPlace s + 2)
-        (j .families) (requestsPlace s) (of-families .start) (of-families .entries))
+      omega (
+        arith,
+        families-end,
+        run-in (familyAt s) (afterFamily s) (FamilyIn s (length (j .faces))) (length s) (λ p h. h .0) (u16At s (familiesPlace s)) (familiesPlace s + 2)
+            (j .families) (requestsPlace s) (of-families .start) (of-families .entries),
+      )
+
+  pub families-start : familiesPlace s + 2 ≤ length s
+  families-start = of-families .start
+
+  pub requests-start : requestsPlace s + 2 ≤ length s
+  requests-start = of-requests .start
 
   family-known : (f : ℕ) → f < length (j .families) → FamilyKnown s (length (j .faces)) (familyPlace s (familiesPlace s + 2) f)
   family-known f b = of-families .entries .known f (omega (arith, families-count)) .1
@@ -172,9 +182,9 @@ module _ (s : List ℕ) (j : Job) (e : ℕ) (l : Laid s j e) where
           few = families-few;
           short = λ f b. rw (loaded f b) (family-known f b .short);
           known =
-            λ f i b c.
+              λ f i b c.
               let h = family-known f b .known i (rw (loaded f b) at c) in
-              rw (loaded f b) (omega (arith, h, faces-count))
+              rw (loaded f b) (omega (arith, h, faces-count));
         }
 
     pub same-members : (f : ℕ) → f < length (j .families) → membersAt s (getD positions f 0) ≡ membersOf j f
@@ -189,12 +199,6 @@ module _ (s : List ℕ) (j : Job) (e : ℕ) (l : Laid s j e) where
   members-below f i b = rw (members-are f b) (member-below s (length (j .faces)) (familyPlace s (familiesPlace s + 2) f) i (family-known f b))
 
 -- ---- the offers look at no more
-
--- the faces below n
-pub record SameFaces (n : ℕ) (a b : Faces) : Type 0 where
-  pub face : (i : ℕ) → i < n → a .face i ≡ b .face i
-  pub ratio : (i : ℕ) → i < n → a .ratio i ≡ b .ratio i
-  pub held : (i : ℕ) → i < n → a .held i ≡ b .held i
 
 -- the families below the count, whose members are faces below n
 pub record SameFamilies (n : ℕ) (x y : Families) : Type 0 where
@@ -211,24 +215,24 @@ module _ (n : ℕ) (a b : Faces) (same : SameFaces n a b) where
   unfolding groupOf
   group-same m h =
       λ k.
-        record {
-          family =
+      record {
+        family =
             record {
               count = length m;
               face =
-                λ i.
+                  λ i.
                   cond-same (ltb i (length m)) (a .face (getD m i 0)) (b .face (getD m i 0)) blank
-                  (λ t. same .face (getD m i 0) (h i (ltb-true i (length m) t))) k
+                  (λ t. same .face (getD m i 0) (h i (ltb-true i (length m) t))) k;
             };
-          ratio =
+        ratio =
             λ i.
-              cond-same (ltb i (length m)) (a .ratio (getD m i 0)) (b .ratio (getD m i 0)) 0
-              (λ t. same .ratio (getD m i 0) (h i (ltb-true i (length m) t))) k;
-          held =
+            cond-same (ltb i (length m)) (a .ratio (getD m i 0)) (b .ratio (getD m i 0)) 0
+            (λ t. same .ratio (getD m i 0) (h i (ltb-true i (length m) t))) k;
+        held =
             λ i.
-              cond-same (ltb i (length m)) (a .held (getD m i 0)) (b .held (getD m i 0)) false
-              (λ t. same .held (getD m i 0) (h i (ltb-true i (length m) t))) k
-        }
+            cond-same (ltb i (length m)) (a .held (getD m i 0)) (b .held (getD m i 0)) false
+            (λ t. same .held (getD m i 0) (h i (ltb-true i (length m) t))) k;
+      }
 
   module _ (x y : Families) (alike : SameFamilies n x y) (request : Request) where
     number-same : (f : ℕ) → numberOffers a x request f ≡ numberOffers b y request f
@@ -236,10 +240,10 @@ module _ (n : ℕ) (a b : Faces) (same : SameFaces n a b) where
     number-same f =
         ap (λ (c : ℕ). cond (ltb f c) (familyOffers (groupOf a (x .members f)) request) []) (alike .count)
         ∙ cond-same (ltb f (y .count)) (familyOffers (groupOf a (x .members f)) request) (familyOffers (groupOf b (y .members f)) request) []
-          (λ t.
-            let l = ltb-true f (y .count) t in
-            ap (λ (m : List ℕ). familyOffers (groupOf a m) request) (alike .members f l)
-            ∙ ap (λ g. familyOffers g request) (group-same (y .members f) (λ i c. alike .below f i l c)))
+        (λ t.
+        let l = ltb-true f (y .count) t in
+        ap (λ (m : List ℕ). familyOffers (groupOf a m) request) (alike .members f l)
+        ∙ ap (λ g. familyOffers g request) (group-same (y .members f) (λ i c. alike .below f i l c)))
 
     turn-same : (fs : List ℕ) → inTurn a x request fs ≡ inTurn b y request fs
     unfolding inTurn
@@ -262,8 +266,8 @@ module _ (s : List ℕ) (j : Job) (e : ℕ) (l : Laid s j e) (positions : List �
   pub offered : (faces : Faces) → SameFaces (length (j .faces)) faces (facesOf (fontOf j) (heldOf j))
       → (k at : ℕ) (d : Entry.Request) → k < length (j .requests) → at ≡ requestPlace s (requestsPlace s + 2) k
       → offers faces (familiesAt s positions (length (j .families))) (requestOf (requestedAt s (at + 2)) true) (u16At s at)
-        (listAt s (at + 15)) (listAt s (fallbacksAt s (at + 15)))
-        ≡ offersOf j (getD (j .requests) k d)
+      (listAt s (at + 15)) (listAt s (fallbacksAt s (at + 15)))
+      ≡ offersOf j (getD (j .requests) k d)
   unfolding offersOf requestAt
   offered faces same k at d b h =
       offers-same (length (j .faces)) faces (facesOf (fontOf j) (heldOf j)) same (familiesAt s positions (length (j .families))) (familiesOf j) same-families

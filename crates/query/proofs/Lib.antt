@@ -16,3 +16,4 @@ pub mod Turns
 pub mod Entered
 pub mod Glued
 pub mod Called
+pub mod Answers

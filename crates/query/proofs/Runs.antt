@@ -85,9 +85,11 @@ module _ {A : Type 0} (v : ℕ → A) (next : ℕ → ℕ) (Known : ℕ → Type
     where
       moved : (i : ℕ) → placeOf next t i ≡ placeOf next p (suc i)
       moved i = ap (λ (x : ℕ). placeOf next x i) (one .end) ∙ shifted next p i
+
       each : (i : ℕ) (d : A) → i < suc n → getD (a ∷ ys) i d ≡ v (placeOf next p i)
       each zero d l = one .value
       each (suc i) d l = rest .each i d (omega arith) ∙ ap v (moved i)
+
       known : (i : ℕ) → i < suc n → Known (placeOf next p i)
       known zero l = one .known
       known (suc i) l = rw (moved i) at (rest .known i (omega arith))

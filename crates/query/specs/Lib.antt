@@ -8,3 +8,4 @@ pub mod Sheet
 pub mod Located
 pub mod Record
 pub mod Call
+pub mod Answer

@@ -93,5 +93,5 @@ requestAt job at =
       most = u16At job at;
       attributes = requestedAt job (at + 2);
       families = listAt job (at + 15);
-      fallbacks = listAt job (fallbacksAt job (at + 15))
+      fallbacks = listAt job (fallbacksAt job (at + 15));
     }

@@ -69,13 +69,13 @@ loop-less c = omega arith
 loop-again : tie.Need-loop-again Inv-loop μ-loop
 loop-again c =
     let a = c .before .before .before .before .args in
-    let l = c .before .before .loop in
-    ( omega arith
-    , family-next (now (a .job)) (a .at) (l .i) (l .place) (c .u16-at .result) (l .inv .1) (c .u16-at .ensures)
-    , length-set (l .family-at) (l .i) (l .place) ∙ l .inv .2
-    , below-more _ (l .i)
-      (λ k b. getD-set-other (l .family-at) (l .i) k (l .place) 0 (omega arith) ∙ l .inv .3 k b)
-      (getD-set-same (l .family-at) (l .i) (l .place) 0 (omega arith) ∙ l .inv .1)
+    let l = c .before .before .loop in (
+      omega arith,
+      family-next (now (a .job)) (a .at) (l .i) (l .place) (c .u16-at .result) (l .inv .1) (c .u16-at .ensures),
+      length-set (l .family-at) (l .i) (l .place) ∙ l .inv .2,
+      below-more _ (l .i)
+          (λ k b. getD-set-other (l .family-at) (l .i) k (l .place) 0 (omega arith) ∙ l .inv .3 k b)
+          (getD-set-same (l .family-at) (l .i) (l .place) 0 (omega arith) ∙ l .inv .1),
     )
 
 returns : tie.Need-returns Inv-loop μ-loop

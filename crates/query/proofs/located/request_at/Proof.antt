@@ -53,10 +53,10 @@ loop-less c = omega arith
 loop-again : tie.Need-loop-again Inv-loop μ-loop
 loop-again c =
     let a = c .before .before .before .before .before .args in
-    let l = c .before .before .before .loop in
-    ( omega arith
-    , request-next (now (a .job)) (a .at) (l .i) (l .place) (c .before .after-list .result) (c .after-list2 .result)
-      (l .inv .1) (c .before .after-list .ensures) (c .after-list2 .ensures)
+    let l = c .before .before .before .loop in (
+      omega arith,
+      request-next (now (a .job)) (a .at) (l .i) (l .place) (c .before .after-list .result) (c .after-list2 .result)
+          (l .inv .1) (c .before .after-list .ensures) (c .after-list2 .ensures),
     )
 
 returns : tie.Need-returns Inv-loop μ-loop

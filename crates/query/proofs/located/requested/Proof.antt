@@ -42,8 +42,8 @@ unfolding requestedAt
 returns c =
     c .new3 .ensures
     ∙ made (c .before .before .before .before .new .ensures ∙ c .before .before .before .before .before .single-at .ensures)
-      (c .before .before .before .style-at .ensures)
-      (c .before .new2 .ensures ∙ c .before .before .single-at2 .ensures)
+    (c .before .before .before .style-at .ensures)
+    (c .before .new2 .ensures ∙ c .before .before .single-at2 .ensures)
 
 pub requested-spec : {M : Type 1} → statement M
 requested-spec =
