@@ -14,6 +14,8 @@ pub mod Numbered
 pub mod Values
 pub mod Examples
 -- Laws that several proofs cite.
+pub mod Runs
+-- The offers.
 pub mod Picked
 pub mod Places
 pub mod Defaults
@@ -24,3 +26,8 @@ pub mod Signs
 pub mod Run
 pub mod Listed
 pub mod Tried
+-- From a job's bytes to its families and requests.
+pub mod Entered
+pub mod Glued
+pub mod Called
+pub mod Answers

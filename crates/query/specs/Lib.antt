@@ -7,3 +7,7 @@ pub mod Layout
 pub mod Offers
 pub mod Record
 pub mod Cursor
+pub mod Sheet
+pub mod Located
+pub mod Call
+pub mod Answer

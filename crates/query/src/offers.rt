@@ -224,7 +224,7 @@ fn members_offer(
 }
 
 // A 32-bit number, which its own type bounds.
-fn wide(x: u32) -> usize
+pub fn wide(x: u32) -> usize
     ensures { λ r. ⌜ (r ≡ x) × (x < 2 ^ 32) ⌝ }
 {
     x as usize
