@@ -1,18 +1,23 @@
--- Laws that the proofs of `query` share, and the theorems on the job's layout.
+-- Laws that the proofs of `query` share, and the theorems on the job.
+-- How a reading ends: what the code of a field, an entry and a section is proved from.
 pub mod Ends
 pub mod Singles
 pub mod Leaves
 pub mod Fonts
 pub mod Checks
 pub mod Positions
+-- A byte string is accepted exactly when it is the layout of a job within the limits.
 pub mod Stands
 pub mod Exact
 pub mod ExactLists
 pub mod ExactEntries
 pub mod AcceptedJobs
+-- First met, reading left to right.
+pub mod FirstMet
+pub mod Examples
+-- Where entries and their values stand, for the layer above.
 pub mod Numbered
 pub mod Values
-pub mod Examples
 -- Laws that several proofs cite.
 pub mod Runs
 -- The offers.
