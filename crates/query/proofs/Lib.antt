@@ -7,5 +7,6 @@ pub mod Turns
 pub mod Written
 pub mod Signs
 pub mod Run
+pub mod Agree
 pub mod Listed
 pub mod Tried
