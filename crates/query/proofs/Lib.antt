@@ -29,6 +29,7 @@ pub mod Turns
 pub mod Written
 pub mod Signs
 pub mod Run
+pub mod Agree
 pub mod Listed
 pub mod Tried
 -- From a job's bytes to its families and requests.
