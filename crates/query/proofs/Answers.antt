@@ -117,14 +117,14 @@ module _ (s : List ℕ) (k : ℕ) (faces : Faces) (positions : List ℕ) (asked 
               ∙ ap (λ (x : Request). offerAt (offers faces (familiesAt s filled (length (j .families))) x most (listAt s (at + 15)) (listAt s (fallbacksAt s (at + 15)))) n) known
               ∙ ap (λ (x : ℕ). offerAt (offers faces (familiesAt s filled (length (j .families))) (requestOf (requestedAt s (at + 2)) true) x (listAt s (at + 15)) (listAt s (fallbacksAt s (at + 15)))) n) cut
               ∙ ap (λ os. offerAt os n)
-                (offered s j e l filled (loaded-there s j e l k p m (asked .request) here count q next at found filled loaded) faces (asked .same j e h) k at _
-                (within s j e l k p m (asked .request) here count) (at-is s j e l k p m (asked .request) here count q next at found))
+              (offered s j e l filled (loaded-there s j e l k p m (asked .request) here count q next at found filled loaded) faces (asked .same j e h) k at _
+              (within s j e l k p m (asked .request) here count) (at-is s j e l k p m (asked .request) here count q next at found))
 
           pub told : Told s k n filled r
           told =
               record {
                 offer = the-offer;
-                loaded = λ i b. loaded i (omega (arith, count ∙ ap (u16At s) here)) ∙ ap (λ (x : ℕ). familyPlace s (x + 2) i) here
+                loaded = λ i b. loaded i (omega (arith, count ∙ ap (u16At s) here)) ∙ ap (λ (x : ℕ). familyPlace s (x + 2) i) here;
               }
 
 -- the face that an offer names, by the positions of the families
