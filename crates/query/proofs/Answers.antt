@@ -1,5 +1,5 @@
 -- The answer to a request: what each call of its code asks, and that the last one's answer is the offer of the request.
-use Prim.Native.Nat.{ℕ, _+_, _≤_, _<_}
+use Prim.Native.Nat.{ℕ, _+_, _*_, _≤_, _<_}
 use mathlib.Core.Path.{_≡_, refl, sym, ap, _∙_}
 use mathlib.Core.Bool.{true}
 use mathlib.Core.List.{List}
@@ -9,16 +9,17 @@ use Rattle.font.specs.Tables.{u16At}
 use Rattle.font.specs.declared.attributes.Attributes.{Attributes}
 use Rattle.matching.specs.declared.order.Request.{Request}
 use Rattle.matching.specs.Matching.{requestOf}
+use Rattle.query.specs.declared.offers.Offer.{Offer}
 use Rattle.query.specs.declared.offers.Offered.{Offered}
 use Rattle.query.specs.Reader.{got}
 use Rattle.query.specs.Job.{Job, readJob}
 use Rattle.query.specs.Offers.{Faces, offers, offerAt, familiesAt, listAt, fallbacksAt, Small}
-use Rattle.query.specs.Sheet.{offersOf}
+use Rattle.query.specs.Sheet.{fontOf, membersOf, offersOf, faceOfOffer}
 use Rattle.query.specs.Located.{familyPlace, familiesPlace, requestsPlace, requestPlace, requestedAt, RequestedKnown}
 use Rattle.query.specs.Call.{requestOfJob}
 use Rattle.query.specs.Answer.{Asked, Told}
 use Rattle.query.proofs.Called.{accepted-job}
-use Rattle.query.proofs.Glued.{Laid, laid, families-count, families-few, families-end, families-inside, families-start, requests-count, requests-start, request-known, request-inside, small, offered}
+use Rattle.query.proofs.Glued.{Laid, laid, families-count, families-few, families-end, families-inside, families-start, requests-count, requests-start, request-known, request-inside, small, offered, member-is, members-below}
 
 module _ (s : List ℕ) (j : Job) (e : ℕ) (l : Laid s j e) (k p m : ℕ) (there : k < u16At s (requestsPlace s)) (here : p ≡ familiesPlace s) (count : m ≡ u16At s p) where
   as-many : m ≡ length (j .families)
@@ -116,12 +117,28 @@ module _ (s : List ℕ) (k : ℕ) (faces : Faces) (positions : List ℕ) (asked 
               ∙ ap (λ (x : Request). offerAt (offers faces (familiesAt s filled (length (j .families))) x most (listAt s (at + 15)) (listAt s (fallbacksAt s (at + 15)))) n) known
               ∙ ap (λ (x : ℕ). offerAt (offers faces (familiesAt s filled (length (j .families))) (requestOf (requestedAt s (at + 2)) true) x (listAt s (at + 15)) (listAt s (fallbacksAt s (at + 15)))) n) cut
               ∙ ap (λ os. offerAt os n)
-                (offered s j e l filled (loaded-there s j e l k p m (asked .request) here count q next at found filled loaded) faces (asked .same j e h) k at _
-                (within s j e l k p m (asked .request) here count) (at-is s j e l k p m (asked .request) here count q next at found))
+              (offered s j e l filled (loaded-there s j e l k p m (asked .request) here count q next at found filled loaded) faces (asked .same j e h) k at _
+              (within s j e l k p m (asked .request) here count) (at-is s j e l k p m (asked .request) here count q next at found))
 
           pub told : Told s k n filled r
           told =
               record {
                 offer = the-offer;
-                loaded = λ i b. loaded i (omega (arith, count ∙ ap (u16At s) here)) ∙ ap (λ (x : ℕ). familyPlace s (x + 2) i) here
+                loaded = λ i b. loaded i (omega (arith, count ∙ ap (u16At s) here)) ∙ ap (λ (x : ℕ). familyPlace s (x + 2) i) here;
               }
+
+-- the face that an offer names, by the positions of the families
+module _ (s : List ℕ) (j : Job) (e : ℕ) (h : readJob s ≡ got j e) (positions : List ℕ)
+    (loaded : (i : ℕ) → i < u16At s (familiesPlace s) → getD positions i 0 ≡ familyPlace s (familiesPlace s + 2) i)
+    (o : Offer) (family : o .family < length (j .families)) (place : o .place < length (membersOf j (o .family))) where
+  number-is : getD (membersOf j (o .family)) (o .place) 0 ≡ u16At s (getD positions (o .family) 0 + 2 + 2 * o .place)
+  number-is =
+      let l = laid s j e h in
+      member-is s j e l positions (λ i b. loaded i (omega (arith, families-count s j e l))) (o .family) (o .place) family place
+
+  pub face-is : faceOfOffer j o ≡ fontOf j (u16At s (getD positions (o .family) 0 + 2 + 2 * o .place))
+  unfolding faceOfOffer
+  face-is = ap (fontOf j) number-is
+
+  pub face-below : u16At s (getD positions (o .family) 0 + 2 + 2 * o .place) < length (j .faces)
+  face-below = rw number-is at (members-below s j e (laid s j e h) (o .family) (o .place) family place)

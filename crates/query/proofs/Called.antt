@@ -7,9 +7,7 @@ use native.Mathlib.Omega.{arith}
 use lib.Dec.{ltb, eqb}
 use lib.ListN.{length, getD}
 use borrow.Author.Tests.{eq-eqb, ne-eqb, lt-ltb, le-ltb}
-use Rattle.font.specs.Tables.{u16At}
 use lib.IntN.{ℤ}
-use Rattle.matching.specs.Matching.{requestOf}
 use Rattle.matching.specs.declared.synthesis.Setting.{Setting}
 use Rattle.matching.specs.declared.synthesis.Setting.the-variants.{Unset, Set}
 use Rattle.matching.specs.Synthesis.{unvaried, put, added, synthesized}
@@ -19,14 +17,11 @@ use Rattle.query.specs.declared.offers.Offered.the-variants as Offered'
 use Rattle.query.specs.Reader.{Got, refused, got}
 use Rattle.query.specs.Entries.{Request}
 use Rattle.query.specs.Job.{Job, readJob, answer, checkJob}
-use Rattle.query.specs.Offers.{Faces, facesOf, offers, offerAt, familiesAt, listAt, fallbacksAt}
-use Rattle.query.specs.Sheet.{fontOf, heldOf, offersOf, faceOfOffer, synthesisOfOffer}
+use Rattle.query.specs.Offers.{offerAt}
+use Rattle.query.specs.Sheet.{offersOf, faceOfOffer, synthesisOfOffer}
 use Rattle.query.specs.Record.{recordBytes}
-use Rattle.query.specs.Located.{familiesPlace, requestsPlace, requestPlace, requestedAt}
-use Rattle.query.specs.Answer.{SameFaces}
 use Rattle.query.specs.Call.{Called, unwritten, requestOfJob, offerWritten, answered, requestCall, jobCall, offerCall}
 use Rattle.query.proofs.Ends.{number-nonzero}
-use Rattle.query.proofs.Glued.{Laid, Loaded, offered}
 
 -- a job that the check call accepts
 pub accepted-job : (s : List ℕ) → checkJob s .refusal ≡ 0 → (j : Job) × (e : ℕ) × (readJob s ≡ got j e)
@@ -65,17 +60,10 @@ module _ (s : List ℕ) (k n : ℕ) (out : List ℕ) where
         unfolding requestCall
         a-request = called ∙ rw (lt-ltb k (length (j .requests)) there)
 
-        -- the answer of `request_offer`, on arrays that agree with the job's faces and families
-        module _ (l : Laid s j e) (positions : List ℕ) (loaded : Loaded s (familiesPlace s + 2) (length (j .families)) positions) (faces : Faces)
-            (same : SameFaces (length (j .faces)) faces (facesOf (fontOf j) (heldOf j))) (at : ℕ) (place : at ≡ requestPlace s (requestsPlace s + 2) k)
-            (answer : Offered)
-            (found : answer ≡ offerAt (offers faces (familiesAt s positions (length (j .families))) (requestOf (requestedAt s (at + 2)) true) (u16At s at)
-            (listAt s (at + 15)) (listAt s (fallbacksAt s (at + 15)))) n) where
+        -- an answer to the request
+        module _ (answer : Offered) (found : answer ≡ offerAt (offersOf j (requestOfJob j k)) n) where
           answer-is : offerCall s k n out ≡ answered j (requestOfJob j k) out answer
-          unfolding requestOfJob
-          answer-is =
-              a-request
-              ∙ ap (answered j (requestOfJob j k) out) (sym (found ∙ ap (λ os. offerAt os n) (offered s j e l positions loaded faces same k at _ there place)))
+          answer-is = a-request ∙ ap (answered j (requestOfJob j k) out) (sym found)
 
           pub past-list : answer ≡ Offered'.Past → offerCall s k n out ≡ unwritten 1 out
           unfolding answered

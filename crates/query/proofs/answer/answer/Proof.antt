@@ -1,21 +1,10 @@
-use Prim.Native.Nat.{ℕ, _+_}
-use mathlib.Core.Path.{_≡_}
+-- `query::answer::answer` meets its contract: a law of `Answers` for each call.
+-- Assumes nothing.
 use native.Mathlib.Omega.{arith}
-use denote.Ref.{now}
 use borrow.Author.Needs.{needs}
-use Rattle.query.specs.Offers.{facesOfLists}
 use Rattle.query.proofs.Answers.{section-in, to-load, requests-in, to-find, lists-in, to-read, to-offer, told}
 use Rattle.query.proofs.answer.answer.Statement.{statement}
 use Rattle.query.proofs.answer.answer.Tie as tie
-use Rattle.query.proofs.answer.answer.Reads as reads
-use Rattle.query.proofs.answer.answer.Lts as lts
-use Rattle.font.proofs.tables.u16_at.Reads as u16-at-reads
-use Rattle.matching.proofs.matching.request_of.Reads as request-of-reads
-use Rattle.query.proofs.located.families_at.Reads as families-at-reads
-use Rattle.query.proofs.located.load_families.Reads as load-families-reads
-use Rattle.query.proofs.located.request_at.Reads as request-at-reads
-use Rattle.query.proofs.located.requested.Reads as requested-reads
-use Rattle.query.proofs.offers.request_offer.Reads as request-offer-reads
 
 families-at-requires : tie.Need-families-at-requires
 families-at-requires c κs = search needs
