@@ -37,3 +37,7 @@ pub mod Entered
 pub mod Glued
 pub mod Called
 pub mod Answers
+-- From a job's bytes to the numbers of its faces.
+pub mod Ordered
+pub mod Loads
+pub mod Replacing

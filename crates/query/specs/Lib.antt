@@ -9,5 +9,6 @@ pub mod Record
 pub mod Cursor
 pub mod Sheet
 pub mod Located
+pub mod Load
 pub mod Call
 pub mod Answer

@@ -5,6 +5,7 @@ pub mod entries;
 pub mod export;
 pub mod fields;
 pub mod job;
+pub mod load;
 pub mod located;
 pub mod offers;
 pub mod record;
