@@ -41,3 +41,7 @@ pub mod Answers
 pub mod Ordered
 pub mod Loads
 pub mod Replacing
+pub mod Laid
+pub mod Applied
+pub mod Loaded
+pub mod Finds

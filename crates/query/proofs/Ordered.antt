@@ -1,5 +1,5 @@
 -- Entries one after another: the reader of some entries of one kind reads the run of entries that lies at its position.
-use Prim.Native.Nat.{ℕ, zero, suc, _+_, _*_, _-_, _≤_, _<_, min}
+use Prim.Native.Nat.{ℕ, zero, suc, _+_, _-_, _<_, min}
 use mathlib.Core.Path.{_≡_, refl, sym, ap, _∙_}
 use mathlib.Core.Bool.{Bool, true, false}
 use mathlib.Core.List.{List, [], _∷_}
@@ -9,7 +9,7 @@ use lib.ListN.{length, getD, set, take, drop, length-drop, drop-of-length-le}
 use lib.Seq.{take-all, take-nil, drop-length, getD-set-same, getD-set-other}
 use borrow.Author.Tests.{leb-true, leb-false}
 use Rattle.matching.proofs.Ranks.{Tri, low, same, high, tri}
-use Rattle.query.specs.Reader.{Reader, Got, got, done, many}
+use Rattle.query.specs.Reader.{Reader, got, done, many}
 use Rattle.query.specs.Load.{placeOf, runOf}
 use Rattle.query.proofs.Ends.{then-got}
 
@@ -32,8 +32,8 @@ module _ {A : Type 0} (entry : ℕ → A) (next : ℕ → ℕ) where
   run-length at (suc n) = ap suc (run-length (next at) n)
 
   pub many-run : (r : Reader A) (s : List ℕ)
-    → ((p : ℕ) (a : A) (q : ℕ) → r s p ≡ got a q → (a ≡ entry p) × (q ≡ next p))
-    → (n p : ℕ) (xs : List A) (q : ℕ) → many n r s p ≡ got xs q → (xs ≡ runOf entry next p n) × (q ≡ placeOf next p n)
+      → ((p : ℕ) (a : A) (q : ℕ) → r s p ≡ got a q → (a ≡ entry p) × (q ≡ next p))
+      → (n p : ℕ) (xs : List A) (q : ℕ) → many n r s p ≡ got xs q → (xs ≡ runOf entry next p n) × (q ≡ placeOf next p n)
   unfolding many done runOf placeOf
   many-run r s each zero p xs q e = (cc, cc)
   many-run r s each (suc n) p xs q e =
@@ -43,15 +43,15 @@ module _ {A : Type 0} (entry : ℕ → A) (next : ℕ → ℕ) where
       let rest = many-run r s each n (a .1) (b .0) (b .1) (b .2) in
       let same : got (a .0 ∷ b .0) (b .1) ≡ got xs q = b .3 in
       let list : xs ≡ a .0 ∷ b .0 = cc in
-      let end : q ≡ b .1 = cc in
-      ( list ∙ (λ k. one .0 k ∷ (rest .0 ∙ ap (λ (t : ℕ). runOf entry next t n) (one .1)) k)
-      , end ∙ rest .1 ∙ ap (λ (t : ℕ). placeOf next t n) (one .1) ∙ place-first next p n
+      let end : q ≡ b .1 = cc in (
+        list ∙ (λ k. one .0 k ∷ (rest .0 ∙ ap (λ (t : ℕ). runOf entry next t n) (one .1)) k),
+        end ∙ rest .1 ∙ ap (λ (t : ℕ). placeOf next t n) (one .1) ∙ place-first next p n,
       )
 
 -- ---- lists that a loop fills from the front
 
 pub stored : {A : Type 0} (d : A) (f : ℕ → A) (xs : List A) (i : ℕ) (v : A) → i < length xs
-  → ((j : ℕ) → j < i → getD xs j d ≡ f j) → v ≡ f i → (j : ℕ) → j < i + 1 → getD (set xs i v) j d ≡ f j
+    → ((j : ℕ) → j < i → getD xs j d ≡ f j) → v ≡ f i → (j : ℕ) → j < i + 1 → getD (set xs i v) j d ≡ f j
 stored d f xs i v l h e j m = go (tri j i)
   where
     go : Tri j i → getD (set xs i v) j d ≡ f j
@@ -62,7 +62,7 @@ stored d f xs i v l h e j m = go (tri j i)
 -- ---- a part of a list whose ends are held to the list
 
 pub held-part : (s : List ℕ) (a n b e : ℕ) → b ≡ min a (length s) → e ≡ min (b + n) (length s)
-  → take (e - b) (drop b s) ≡ take n (drop a s)
+    → take (e - b) (drop b s) ≡ take n (drop a s)
 held-part s a n b e f g = go (leb a (length s)) (leb (a + n) (length s)) refl refl
   where
     go : (x y : Bool) → leb a (length s) ≡ x → leb (a + n) (length s) ≡ y → take (e - b) (drop b s) ≡ take n (drop a s)
@@ -79,7 +79,7 @@ held-part s a n b e f g = go (leb a (length s)) (leb (a + n) (length s)) refl re
         let size : e - b ≡ length s - a = omega arith in
         rw (size, start)
         (take-all (length s - a) (drop a s) (simp length-drop (omega arith))
-            ∙ sym (take-all n (drop a s) (simp length-drop (omega arith))))
+        ∙ sym (take-all n (drop a s) (simp length-drop (omega arith))))
     go false y t u =
         let l = leb-false a (length s) t in
         let start : b ≡ length s = omega arith in

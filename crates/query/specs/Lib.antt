@@ -12,3 +12,4 @@ pub mod Located
 pub mod Load
 pub mod Call
 pub mod Answer
+pub mod Found

@@ -2,13 +2,14 @@
 use Prim.Native.Nat.{ℕ, zero, suc, _+_, _*_, _<_, _≤_}
 use mathlib.Core.Path.{_≡_}
 use mathlib.Core.Bool.{Bool, false, cond}
-use mathlib.Core.List.{List, [], _∷_}
+use mathlib.Core.List.{List, [], _∷_, map}
 use lib.ListN.{length, getD, take, drop}
 use lib.Dec.{eqb}
 use lib.Ieee.{Float, binary32, ofBits}
 use lib.Ieee.Scale.{finite}
 use Rattle.font.specs.declared.attributes.Angle.the-variants.{Unstated, Degrees}
 use Rattle.font.specs.declared.attributes.FontStyle.{FontStyle}
+use Rattle.font.specs.declared.font.AxisInfo.{AxisInfo}
 use Rattle.font.specs.declared.font.FontInfo.{FontInfo}
 use Rattle.font.specs.declared.overrides.FontInfoOverride.{FontInfoOverride}
 use Rattle.font.specs.declared.overrides.WidthOverride.the-variants as Width
@@ -18,9 +19,12 @@ use Rattle.font.specs.Single.{single, orderKey, wholePercent}
 use Rattle.font.specs.Tables.{u16At, u32At}
 use Rattle.font.specs.Reading.{bit}
 use Rattle.font.specs.Font.{fromFontRef}
+use Rattle.font.specs.Overrides.{setDefaults}
 use Rattle.matching.specs.Matching.{styleNumber, hasAxis, slnt}
 use Rattle.query.specs.Entries.{Face, Pair, Override, styleOfKind}
-use Rattle.query.specs.Sheet.{overriddenBy, afterOverrides}
+use Rattle.query.specs.Job.{Job}
+use Rattle.query.specs.Offers.{Faces, facesOf}
+use Rattle.query.specs.Sheet.{afterOverrides, fontOf, heldOf}
 
 -- ---- entries one after another, where `next` gives the position after an entry
 
@@ -65,7 +69,7 @@ givenAt s p =
     record {
       width = cond (bit 0 (getD s (p + 2) 0)) (Width.Set (record { ratio = numberAt s (p + 3) })) Width.Keep;
       style = cond (bit 1 (getD s (p + 2) 0)) (Style.Set (styleAt s (p + 7))) Style.Keep;
-      weight = cond (bit 2 (getD s (p + 2) 0)) (Weight.Set (record { value = numberAt s (p + 12) })) Weight.Keep
+      weight = cond (bit 2 (getD s (p + 2) 0)) (Weight.Set (record { value = numberAt s (p + 12) })) Weight.Keep;
     }
 
 unfoldable pub pairAt : List ℕ → ℕ → Pair
@@ -86,6 +90,21 @@ overridePlace s = placeOf (overrideEnd s)
 
 unfoldable pub overridesAt : List ℕ → ℕ → ℕ → List Override
 overridesAt s = runOf (overrideAt s) (overrideEnd s)
+
+-- the position of the second section's count: the first section has its count at 0, and its faces from 2 on
+unfoldable pub overridesStart : List ℕ → ℕ
+overridesStart s = facePlace s 2 (u16At s 0)
+
+-- a face with other axes
+unfoldable pub withAxes : FontInfo → List AxisInfo → FontInfo
+withAxes f axes =
+    record { attributes = f .attributes; axes = axes; «axis_count» = f .«axis_count»; «charmap_index» = f .«charmap_index» }
+
+-- a face after the first k pairs, in order
+unfoldable pub afterPairs : List Pair → ℕ → FontInfo → FontInfo
+afterPairs ps k f =
+    withAxes f
+    (setDefaults (f .axes) (f .«axis_count») (map (λ (p : Pair). p .tag) ps) (map (λ (p : Pair). p .value) ps) k)
 
 -- ---- a list for each number
 
@@ -121,4 +140,19 @@ pub record Loaded (s : List ℕ) (at n : ℕ) (percents styles weights ratios : 
 pub record Replaced (os : List Override) (percents styles weights ratios percents' styles' weights' ratios' : List ℕ) : Type 0 where
   pub long : Long percents' styles' weights' ratios'
   pub replaced : (font : ℕ → FontInfo) (n : ℕ) → n ≤ 256 → Numbers font n percents styles weights ratios
-    → Numbers (λ i. afterOverrides os i (font i)) n percents' styles' weights' ratios'
+      → Numbers (λ i. afterOverrides os i (font i)) n percents' styles' weights' ratios'
+
+-- what an accepted job's faces and overrides are, by position
+pub record LaidOut (s : List ℕ) (job : Job) : Type 0 where
+  pub short : length s ≤ 16777216
+  pub few : u16At s 0 ≤ 256
+  pub faces : job .faces ≡ runOf (faceAt s) (faceEnd s) 2 (u16At s 0)
+  pub inside : overridesStart s + 2 ≤ length s
+  pub fewOverrides : u16At s (overridesStart s) ≤ 256
+  pub overrides : job .overrides ≡ overridesAt s (overridesStart s + 2) (u16At s (overridesStart s))
+
+-- what is known of the faces of a job agrees with the job, for every face of it
+pub record Agrees (faces : Faces) (job : Job) : Type 0 where
+  pub face : (i : ℕ) → i < length (job .faces) → faces .face i ≡ facesOf (fontOf job) (heldOf job) .face i
+  pub ratio : (i : ℕ) → i < length (job .faces) → faces .ratio i ≡ facesOf (fontOf job) (heldOf job) .ratio i
+  pub isHeld : (i : ℕ) → i < length (job .faces) → faces .held i ≡ facesOf (fontOf job) (heldOf job) .held i

@@ -1,7 +1,7 @@
 -- `query::load::font_at` meets its contract: a part whose ends are held to the job is what `take` and `drop` give.
 -- Assumes nothing.
 use Prim.Native.Nat.{ℕ, _+_}
-use mathlib.Core.Path.{_≡_, ap, _∙_}
+use mathlib.Core.Path.{ap, _∙_}
 use mathlib.Core.List.{List}
 use lib.ListN.{take, drop}
 use Rattle.font.specs.declared.font.Checked.{Checked}
@@ -50,8 +50,8 @@ unfolding fontAt faceAt
 returns c =
     ap (λ (f : Checked). f .font) (c .before .from-font-ref .ensures)
     ∙ ap (λ (x : List ℕ). fromFontRef x .font)
-      (held-part (c .before .before .before .before .before .before .before .args .job .now) (c .before .before .before .before .before .before .before .args .at + 5) (c .before .before .before .before .before .u32-at .result) (c .before .before .before .before .least .result) (c .before .before .before .least2 .result) (c .before .before .before .before .least .ensures) (c .before .before .before .least2 .ensures)
-      ∙ ap (λ (n : ℕ). take n (drop (c .before .before .before .before .before .before .before .args .at + 5) (c .before .before .before .before .before .before .before .args .job .now))) (c .before .before .before .before .before .u32-at .ensures))
+    (held-part (c .before .before .before .before .before .before .before .args .job .now) (c .before .before .before .before .before .before .before .args .at + 5) (c .before .before .before .before .before .u32-at .result) (c .before .before .before .before .least .result) (c .before .before .before .least2 .result) (c .before .before .before .before .least .ensures) (c .before .before .before .least2 .ensures)
+    ∙ ap (λ (n : ℕ). take n (drop (c .before .before .before .before .before .before .before .args .at + 5) (c .before .before .before .before .before .before .before .args .job .now))) (c .before .before .before .before .before .u32-at .ensures))
 
 pub font-at-spec : {M : Type 1} → statement M
 font-at-spec =

@@ -3,7 +3,7 @@
 use lib.Dec.{eqb}
 use Rattle.matching.specs.Matching.{slnt}
 use Prim.Native.Nat.{ℕ, _+_, _*_, _-_, _≤_}
-use mathlib.Core.Path.{_≡_, refl, sym, ap, _∙_}
+use mathlib.Core.Path.{_≡_, refl, ap, _∙_}
 use native.Mathlib.Omega.{arith}
 use borrow.Author.Needs.{needs}
 use Rattle.query.specs.Load.{placeOf, facePlace, Loaded}
@@ -22,12 +22,12 @@ abbrev μ-loop : tie.MeasureT-loop
 
 loop-holds : tie.Need-loop-holds Inv-loop μ-loop
 unfolding facePlace placeOf
-loop-holds c =
-    ( omega arith
-    , refl
-    , omega arith
-    , loaded-none _ _ _ _ _ _ _ _ _ (c .before .pre .2)
-    )
+loop-holds c = (
+  omega arith,
+  refl,
+  omega arith,
+  loaded-none _ _ _ _ _ _ _ _ _ (c .before .pre .2),
+)
 
 font-at-requires : tie.Need-font-at-requires Inv-loop μ-loop
 font-at-requires c κs = omega arith
@@ -111,16 +111,16 @@ loop-again : tie.Need-loop-again Inv-loop μ-loop
 unfolding slnt
 loop-again c =
     let more =
-          loaded-more _ _ _ _ (c .before .before .before .before .before .before .before .before .font-at .result) _ _ _ _ _ _ (c .before .before .before .before .before .before .before .before .before .before .loop .inv .1) (c .before .before .before .before .before .before .before .before .font-at .ensures) (omega arith) (c .before .before .before .before .before .before .before .before .before .before .loop .inv .3)
-          (c .before .before .before .before .before .before .whole-percent .ensures) (c .before .before .before .before .before .style-number .ensures) (c .before .before .before .before .order-number .ensures) (c .before .before .before .order-number2 .ensures) (c .before .before .has-axis .ensures)
-          (ap (λ (b : ℕ). eqb b 1) (c .before .byte-at .ensures)) in
+    loaded-more _ _ _ _ (c .before .before .before .before .before .before .before .before .font-at .result) _ _ _ _ _ _ (c .before .before .before .before .before .before .before .before .before .before .loop .inv .1) (c .before .before .before .before .before .before .before .before .font-at .ensures) (omega arith) (c .before .before .before .before .before .before .before .before .before .before .loop .inv .3)
+    (c .before .before .before .before .before .before .whole-percent .ensures) (c .before .before .before .before .before .style-number .ensures) (c .before .before .before .before .order-number .ensures) (c .before .before .before .order-number2 .ensures) (c .before .before .has-axis .ensures)
+    (ap (λ (b : ℕ). eqb b 1) (c .before .byte-at .ensures)) in
     (omega arith, face-next _ _ _ _ _ (c .before .before .before .before .before .before .before .before .before .before .loop .inv .1) (c .u32-at .ensures), omega arith, more)
 
 returns : tie.Need-returns Inv-loop μ-loop
 returns c =
-    let end : c .before .loop .i ≡ c .before .before .before .args .count = omega arith in
-    ( c .before .loop .inv .1 ∙ ap (facePlace (c .before .before .before .args .job .now) (c .before .before .before .args .at)) end
-    , rw end at (c .before .loop .inv .3)
+    let end : c .before .loop .i ≡ c .before .before .before .args .count = omega arith in (
+      c .before .loop .inv .1 ∙ ap (facePlace (c .before .before .before .args .job .now) (c .before .before .before .args .at)) end,
+      rw end at (c .before .loop .inv .3),
     )
 
 pub load-faces-spec : {M : Type 1} → statement M

@@ -1,7 +1,7 @@
 -- `query::load::load_overrides` meets its contract. The invariant: the lists are those after the overrides passed.
 -- Assumes nothing.
 use Prim.Native.Nat.{_+_, _*_, _-_, _≤_}
-use mathlib.Core.Path.{_≡_, refl, sym, ap, _∙_}
+use mathlib.Core.Path.{_≡_, refl, ap, _∙_}
 use native.Mathlib.Omega.{arith}
 use Rattle.query.specs.Load.{placeOf, overridePlace, overridesAt, Replaced}
 use Rattle.query.proofs.Replacing.{replaced-none, replaced-more, override-next}
@@ -34,18 +34,18 @@ loop-less : tie.Need-loop-less Inv-loop μ-loop
 loop-less c = omega arith
 
 loop-again : tie.Need-loop-again Inv-loop μ-loop
-loop-again c =
-    ( omega arith
-    , c .override-end .ensures .0 ∙ override-next _ _ _ _ (c .before .before .before .before .before .before .before .loop .inv .1)
-    , omega (arith, c .override-end .ensures .1)
-    , replaced-more _ _ _ _ (c .before .before .before .before .before .before .before .loop .inv .1) (c .before .before .before .before .before .before .before .loop .inv .3) (c .before .replace-numbers .ensures)
-    )
+loop-again c = (
+  omega arith,
+  c .override-end .ensures .0 ∙ override-next _ _ _ _ (c .before .before .before .before .before .before .before .loop .inv .1),
+  omega (arith, c .override-end .ensures .1),
+  replaced-more _ _ _ _ (c .before .before .before .before .before .before .before .loop .inv .1) (c .before .before .before .before .before .before .before .loop .inv .3) (c .before .replace-numbers .ensures),
+)
 
 returns : tie.Need-returns Inv-loop μ-loop
 returns c =
-    let end : c .before .loop .i ≡ c .before .before .before .args .count = omega arith in
-    ( c .before .loop .inv .1 ∙ ap (overridePlace (c .before .before .before .args .job .now) (c .before .before .before .args .at)) end
-    , rw end at (c .before .loop .inv .3)
+    let end : c .before .loop .i ≡ c .before .before .before .args .count = omega arith in (
+      c .before .loop .inv .1 ∙ ap (overridePlace (c .before .before .before .args .job .now) (c .before .before .before .args .at)) end,
+      rw end at (c .before .loop .inv .3),
     )
 
 pub load-overrides-spec : {M : Type 1} → statement M

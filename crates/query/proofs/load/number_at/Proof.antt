@@ -1,6 +1,6 @@
 -- `query::load::number_at` meets its contract.
 -- Assumes nothing.
-use mathlib.Core.Path.{_≡_, refl, sym, ap, _∙_}
+use mathlib.Core.Path.{sym, _∙_}
 use lib.Ieee.{ofBits, ofInt, round}
 use Rattle.font.specs.Single.{single}
 use Rattle.query.proofs.Loads.{number-is, number-none}
