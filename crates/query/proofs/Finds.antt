@@ -1,15 +1,19 @@
 -- An offer of an accepted job with the face that it names: what each call of `find` asks, and that what it answers is so.
 use Prim.Native.Nat.{ℕ, zero, suc, _+_, _-_, _*_, _^_, _≤_, _<_}
 use mathlib.Core.Path.{_≡_, refl, sym, ap, _∙_}
-use mathlib.Core.Bool.{Bool, true, false}
-use mathlib.Core.List.{List}
+use mathlib.Core.Bool.{Bool, true, false, cond}
+use mathlib.Core.List.{List, [], _∷_}
 use native.Mathlib.Omega.{arith}
 use native.Mathlib.Decide.{le-ind}
-use lib.Dec.{ltb}
-use lib.ListN.{length, getD}
+use lib.Dec.{ltb, eqb}
+use lib.ListN.{length, getD, take, drop, length-take, length-drop}
 use borrow.Author.Tests.{ltb-true, ltb-false}
 use Rattle.font.specs.declared.font.FontInfo.{FontInfo}
-use Rattle.font.specs.Tables.{u16At}
+use Rattle.font.specs.Tables.{u16At, u32At}
+use Rattle.font.specs.Overrides.{withOverride}
+use Rattle.font.specs.declared.charmap.CharmapIndex.{CharmapIndex}
+use Rattle.font.proofs.Inside.{offset-inside}
+use Rattle.query.specs.Entries.{Override}
 use Rattle.matching.specs.Matching.{requestOf}
 use Rattle.query.specs.declared.offers.Offer.{Offer}
 use Rattle.query.specs.declared.offers.Offered.{Offered}
@@ -18,8 +22,8 @@ use Rattle.query.specs.declared.call.Found.{Found}
 use Rattle.query.specs.Reader.{got}
 use Rattle.query.specs.Job.{Job, readJob}
 use Rattle.query.specs.Offers.{facesOf, facesOfLists, offers, offerAt, pick, offerOf}
-use Rattle.query.specs.Sheet.{afterOverrides, fontOf, heldOf, membersOf, familiesOf, offersOf, faceOfOffer}
-use Rattle.query.specs.Load.{placeOf, faceEnd, facePlace, fontAt, overridesAt, overridesStart, Loaded, Replaced, LaidOut, Agrees}
+use Rattle.query.specs.Sheet.{overriddenBy, afterOverrides, fontOf, heldOf, membersOf, familiesOf, offersOf, faceOfOffer}
+use Rattle.query.specs.Load.{placeOf, faceAt, faceEnd, facePlace, fontAt, overridesAt, overridesStart, Loaded, Replaced, LaidOut, Agrees}
 use Rattle.query.specs.Call.{requestOfJob}
 use Rattle.query.specs.Answer.{SameFaces, Asked, Told}
 use Rattle.query.specs.Found.{Ready, Finds}
@@ -45,6 +49,22 @@ in-list list n o e = go (ltb n (length list)) refl
 face-order : (s : List ℕ) (at i n : ℕ) → i ≤ n → facePlace s at i ≤ facePlace s at n
 unfolding facePlace placeOf faceEnd
 face-order s at i n l = le-ind (λ m. facePlace s at i ≤ facePlace s at m) (omega arith) (λ m g h. omega (arith, h)) n l
+
+-- overrides keep the charmap index
+kept-index : (os : List Override) (i : ℕ) (f : FontInfo) → afterOverrides os i f .«charmap_index» ≡ f .«charmap_index»
+unfolding afterOverrides overriddenBy withOverride
+kept-index [] i f = refl
+kept-index (o ∷ os) i f = kept-index os i (cond (eqb (o .face) i) (overriddenBy o f) f) ∙ one (eqb (o .face) i)
+  where
+    one : (b : Bool) → cond b (overriddenBy o f) f .«charmap_index» ≡ f .«charmap_index»
+    one true = refl
+    one false = refl
+
+index-below : (s : List ℕ) (p : ℕ) → fontAt s p .«charmap_index» .«subtable_offset» ≤ length s
+unfolding fontAt faceAt
+index-below s p =
+    let part = take (u32At s (p + 1)) (drop (p + 5) s) in
+    omega (arith, offset-inside part, length-take (u32At s (p + 1)) (drop (p + 5) s), length-drop (p + 5) s)
 
 module _ (s : List ℕ) (k : ℕ) (ready : Ready s k) where
   the : (j : Job) × (e : ℕ) × (readJob s ≡ got j e)
@@ -122,13 +142,18 @@ module _ (s : List ℕ) (k : ℕ) (ready : Ready s k) where
                       ∙ ap (fontOf j) named
                       ∙ sym (face-is s j e h positions (told .loaded) o (g .0) (g .1))
                       ∙ ap (faceOfOffer j) same-offer;
+                  index =
+                      omega
+                      (arith, ap (λ (f : FontInfo). f .«charmap_index» .«subtable_offset») made, ap (λ (x : CharmapIndex). x .«subtable_offset») (kept-index (overridesAt s (q + 2) m) i (fontAt s (getD starts i 0))), index-below s (getD starts i 0), in-job .1);
                 }
 
   -- past the list no face is named
   pub past : (number : ℕ) (positions : List ℕ) (answer : Offered) (font : FontInfo) → Told s k number positions answer → answer ≡ Past
+      → font .«charmap_index» .«subtable_offset» ≡ 0
       → Finds s k number (record { offered = answer; font = font })
-  past number positions answer font told is =
+  past number positions answer font told is none =
       record {
         offer = told .offer;
         face = λ j e o h same. absurd (let z : _≡_ {A = ℕ} 0 1 = cc in omega arith);
+        index = omega arith;
       }

@@ -45,3 +45,5 @@ pub mod Laid
 pub mod Applied
 pub mod Loaded
 pub mod Finds
+pub mod Requests
+pub mod Calls

@@ -59,7 +59,7 @@ returns : tie.Need-returns
 returns c = found _ _ (c .before .before .before .before .before .before .before .before .before .before .before .before .before .before .before .before .before .before .before .before .before .before .before .before .before .before .before .before .before .before .pre) _ _ (c .before .before .before .before .before .before .before .before .before .before .before .before .before .before .before .before .before .before .before .before .before .before .before .before .before .before .before .before .u16-at .ensures) (c .before .before .before .before .before .before .before .before .before .before .before .before .before .before .before .before .before .before .before .before .load-faces .ensures .0) _ (c .before .before .before .before .before .before .before .before .before .before .before .before .before .before .before .before .before .before .before .u16-at2 .ensures) (c .before .before .before .before .before .before .before .before .before .before .before .before .before .before .before .before .before .before .before .before .load-faces .ensures .1) (c .before .before .before .before .before .before .before .before .before .before .before .before .before .before .load-overrides .ensures .1) _ _ _ (c .before .before .before .before .before .before .answer .ensures) _ (c .before .before .before .before .offered .given .1) _ (c .before .member-at .ensures) _ (c .offered-face .ensures)
 
 returns-2 : tie.Need-returns-2
-returns-2 c = past _ _ (c .before .before .before .before .before .before .before .before .before .before .before .before .before .before .before .before .before .before .before .before .before .before .before .before .before .before .pre) _ _ _ _ (c .before .before .answer .ensures) (c .enum-told .given .1)
+returns-2 c = past _ _ (c .before .before .before .before .before .before .before .before .before .before .before .before .before .before .before .before .before .before .before .before .before .before .before .before .before .before .pre) _ _ _ _ (c .before .before .answer .ensures) (c .enum-told .given .1) refl
 
 pub find-spec : {M : Type 1} → statement M
 find-spec =
