@@ -113,6 +113,7 @@ offset-inside font = go (directoryFits font) (charmapIndex font) refl
         → cond b (faceWith font i) (refusedFont 23) .font .«charmap_index» .«subtable_offset» ≤ length font
     last true i l = omega arith
     last false i l = omega arith
+
     go : (b : Bool) (m : Charmap) → charmapIndex font ≡ m
         → cond b (withCharmap font m) (refusedFont 21) .font .«charmap_index» .«subtable_offset» ≤ length font
     go true Missing c = omega arith

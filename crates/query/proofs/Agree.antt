@@ -26,28 +26,28 @@ module _ (faces others : Faces) (n : ℕ) (agree : Agree faces others n) where
   unfolding groupOf
   same-group members known =
       λ k.
-        record {
-          family =
+      record {
+        family =
             record {
               count = length members;
-              face = λ i. where-true (ltb i (length members)) _ _ blank (λ t. agree .face (getD members i 0) (known i (ltb-true i (length members) t))) k
+              face = λ i. where-true (ltb i (length members)) _ _ blank (λ t. agree .face (getD members i 0) (known i (ltb-true i (length members) t))) k;
             };
-          ratio = λ i. where-true (ltb i (length members)) _ _ 0 (λ t. agree .ratio (getD members i 0) (known i (ltb-true i (length members) t))) k;
-          held = λ i. where-true (ltb i (length members)) _ _ false (λ t. agree .held (getD members i 0) (known i (ltb-true i (length members) t))) k
-        }
+        ratio = λ i. where-true (ltb i (length members)) _ _ 0 (λ t. agree .ratio (getD members i 0) (known i (ltb-true i (length members) t))) k;
+        held = λ i. where-true (ltb i (length members)) _ _ false (λ t. agree .held (getD members i 0) (known i (ltb-true i (length members) t))) k;
+      }
 
   -- families of the same numbers, each of a face below n
   module _ (families table : Families) (request : Request) (counts : families .count ≡ table .count)
-           (same : (f : ℕ) → f < families .count → families .members f ≡ table .members f)
-           (known : (f i : ℕ) → f < families .count → i < length (families .members f) → getD (families .members f) i 0 < n) where
+      (same : (f : ℕ) → f < families .count → families .members f ≡ table .members f)
+      (known : (f i : ℕ) → f < families .count → i < length (families .members f) → getD (families .members f) i 0 < n) where
     same-number : (f : ℕ) → numberOffers faces families request f ≡ numberOffers others table request f
     unfolding numberOffers
     same-number f =
         where-true (ltb f (families .count)) (familyOffers (groupOf faces (families .members f)) request)
         (familyOffers (groupOf others (table .members f)) request) []
         (λ t.
-          let l : f < families .count = ltb-true f (families .count) t in
-          ap (λ g. familyOffers g request) (same-group (families .members f) (λ i h. known f i l h) ∙ ap (groupOf others) (same f l)))
+        let l : f < families .count = ltb-true f (families .count) t in
+        ap (λ g. familyOffers g request) (same-group (families .members f) (λ i h. known f i l h) ∙ ap (groupOf others) (same f l)))
         ∙ ap (λ m. cond (ltb f m) (familyOffers (groupOf others (table .members f)) request) []) counts
 
     same-turns : (numbers : List ℕ) → inTurn faces families request numbers ≡ inTurn others table request numbers

@@ -47,3 +47,4 @@ pub mod Loaded
 pub mod Finds
 pub mod Requests
 pub mod Calls
+pub mod CursorRun

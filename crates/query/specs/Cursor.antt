@@ -2,13 +2,11 @@
 use Prim.Native.Nat.{ℕ, zero, suc, _+_, _-_, _^_}
 use mathlib.Core.Bool.{Bool, true, false, _&&_, cond}
 use mathlib.Core.List.{List, [], _∷_}
-use lib.Dec.{ltb}
+use mathlib.Core.Path.{_≡_}
+use lib.Dec.{ltb, eqb}
 use Rattle.query.specs.declared.cursor.Cursor.{Cursor}
 use Rattle.query.specs.declared.cursor.Step.{Step}
-use Rattle.query.specs.declared.offers.Offer.{Offer}
-use Rattle.query.specs.declared.offers.Offered.{Offered}
-use Rattle.query.specs.declared.offers.Offered.the-variants.{At, Past}
-use Rattle.query.specs.Offers.{offerAt}
+use Rattle.query.specs.Call.{Called, offerCall}
 
 -- a fresh cursor
 unfoldable pub fresh : ℕ → Cursor
@@ -19,16 +17,15 @@ unfoldable pub after : Cursor → Bool → Cursor
 after cursor found =
     record { request = cursor .request; next = cond (found && ltb (cursor .next) (2 ^ 32 - 1)) (cursor .next + 1) (cursor .next) }
 
-unfoldable pub isOffer : Offered → Bool
-isOffer (At o) = true
-isOffer Past = false
+-- 0 is an offer; 1 is "past the list", and the rest are refusals
+unfoldable pub isOffer : Called → Bool
+isOffer called = eqb (called .result) 0
 
--- a step through a list of offers
-unfoldable pub stepOf : Cursor → Offered → Step
-stepOf cursor offered = record { cursor = after cursor (isOffer offered); offered = offered }
-
-unfoldable pub stepped : List Offer → Cursor → Step
-stepped list cursor = stepOf cursor (offerAt list (cursor .next))
+-- A step over a job: the offer call with the cursor's numbers, and the cursor after it.
+pub record Steps (job : List ℕ) (cursor : Cursor) (out : List ℕ) (step : Step) (output : List ℕ) : Type 0 where
+  pub result-is : step .result ≡ offerCall job (cursor .request) (cursor .next) out .result
+  pub output-is : output ≡ offerCall job (cursor .request) (cursor .next) out .output
+  pub cursor-is : step .cursor ≡ after cursor (isOffer (offerCall job (cursor .request) (cursor .next) out))
 
 -- `answers` says what an offer call answers for a request and a number, and `found` whether that is an offer.
 module _ {A : Type 0} (answers : ℕ → ℕ → A) (found : A → Bool) where

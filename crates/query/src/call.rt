@@ -37,10 +37,40 @@ fn find(job: &[u8], request: usize, n: usize) -> Found
     let mut held = [false; 256];
     let mut starts = [0usize; 256];
     let mut family_at = [0u32; 64];
-    let section = load::load_faces(job, 2, tables::u16_at(job, 0) as usize, &mut percents, &mut styles, &mut weights, &mut ratios, &mut slants, &mut held, &mut starts);
+    let section = load::load_faces(
+        job,
+        2,
+        tables::u16_at(job, 0) as usize,
+        &mut percents,
+        &mut styles,
+        &mut weights,
+        &mut ratios,
+        &mut slants,
+        &mut held,
+        &mut starts,
+    );
     let count = tables::u16_at(job, section) as usize;
-    load::load_overrides(job, section + 2, count, &mut percents, &mut styles, &mut weights, &mut ratios);
-    let offered = answer::answer(job, request, &mut family_at, &percents, &styles, &weights, &ratios, &slants, &held, n);
+    load::load_overrides(
+        job,
+        section + 2,
+        count,
+        &mut percents,
+        &mut styles,
+        &mut weights,
+        &mut ratios,
+    );
+    let offered = answer::answer(
+        job,
+        request,
+        &mut family_at,
+        &percents,
+        &styles,
+        &weights,
+        &ratios,
+        &slants,
+        &held,
+        n,
+    );
     match offered {
         Offered::At(offer) => {
             let number = located::member_at(job, &family_at, offer.family, offer.place) as usize;

@@ -1,12 +1,7 @@
 // The offer cursor, which each step consumes and returns.
 ghost use mathlib.Core.Path.{_≡_};
-ghost use Prim.Native.Nat.{_<_};
-ghost use lib.ListN.{length};
-ghost use Rattle.query.specs.Offers.{Small, facesOfLists, familiesAt, listAt, fallbacksAt, offers};
-ghost use Rattle.query.specs.Cursor.{fresh, after, stepped};
-use crate::offers;
-use crate::offers::Offered;
-use matching::order::Request;
+ghost use Rattle.query.specs.Cursor.{fresh, after, Steps};
+use crate::call;
 
 // A request and the number of its next offer. Any two numbers make a cursor.
 pub struct Cursor {
@@ -14,10 +9,10 @@ pub struct Cursor {
     pub next: u32,
 }
 
-// What a step hands back.
+// What a step hands back: the cursor, and the result of the offer call.
 pub struct Step {
     pub cursor: Cursor,
-    pub offered: Offered,
+    pub result: u32,
 }
 
 impl Cursor {
@@ -40,53 +35,15 @@ impl Cursor {
         self
     }
 
-    // The next offer of the request whose lists of family numbers begin at a position of the job.
-    pub fn step(
-        mut self,
-        job: &[u8],
-        at: usize,
-        most: usize,
-        family_at: &[u32; 64],
-        families: usize,
-        percents: &[u32; 256],
-        styles: &[u32; 256],
-        weights: &[u32; 256],
-        ratios: &[u32; 256],
-        slants: &[bool; 256],
-        held: &[bool; 256],
-        request: Request,
-    ) -> Step
-        requires { ⌜ (at < length (now job)) × (fallbacksAt (now job) at < length (now job)) × Small (now job) (now «family_at») families ⌝ }
-        ensures { λ r. ⌜ r ≡ stepped (offers (facesOfLists (now (percents .entry)) (now (styles .entry)) (now (weights .entry)) (now (ratios .entry)) (now (slants .entry)) (now (held .entry))) (familiesAt (now (job .entry)) (now («family_at» .entry)) families) request most (listAt (now (job .entry)) at) (listAt (now (job .entry)) (fallbacksAt (now (job .entry)) at))) self ⌝ }
+    // The offer call with the cursor's numbers.
+    pub fn step(mut self, job: &[u8], out: &mut [u8]) -> Step
+        ensures { λ r. ⌜ Steps (now (job .entry)) self (now (out .entry)) r (now (out .exit)) ⌝ }
     {
-        let number = self.next as usize;
-        let offered = offers::request_offer(
-            job,
-            at,
-            most,
-            family_at,
-            families,
-            percents,
-            styles,
-            weights,
-            ratios,
-            slants,
-            held,
-            request,
-            number,
-        );
-        match offered {
-            Offered::At(offer) => {
-                self = self.after(true);
-                Step {
-                    cursor: self,
-                    offered: Offered::At(offer),
-                }
-            }
-            Offered::Past => Step {
-                cursor: self,
-                offered: Offered::Past,
-            },
+        let result = call::offer(job, self.request, self.next, out);
+        self = self.after(result == 0);
+        Step {
+            cursor: self,
+            result,
         }
     }
 }
