@@ -19,7 +19,7 @@ use Rattle.font.specs.declared.charmap.Charmap.{Charmap}
 use Rattle.font.specs.declared.font.Checked.{Checked}
 use Rattle.font.specs.Tables.{directoryFits}
 use Rattle.font.specs.Reading.{readAttributes}
-use Rattle.font.specs.Font.{fvarOf, axisCount, axesOf, refusedFont, withIndex, withCharmap, fromFontRef}
+use Rattle.font.specs.Font.{fvarOf, axisCount, axesOf, refusedFont, emptyFont, noIndex, withIndex, withCharmap, fromFontRef}
 use Rattle.font.proofs.First.{holds}
 use Rattle.font.proofs.Least.{Best, best-start, best-new, best-kept}
 use Rattle.font.proofs.Lookup.{within}
@@ -104,19 +104,18 @@ faceWith font i =
           };
     }
 
--- the same of a face that is read without a refusal
-pub face-inside : (font : List ℕ) → fromFontRef font .refusal ≡ 0 → fromFontRef font .font .«charmap_index» .«subtable_offset» + 2 ≤ length font
-unfolding fromFontRef withCharmap withIndex refusedFont
-face-inside font = go (directoryFits font) (charmapIndex font) refl
+-- whether a font is refused or not, the offset of its charmap index is at most the file's length
+pub offset-inside : (font : List ℕ) → fromFontRef font .font .«charmap_index» .«subtable_offset» ≤ length font
+unfolding fromFontRef withCharmap withIndex refusedFont emptyFont noIndex
+offset-inside font = go (directoryFits font) (charmapIndex font) refl
   where
     last : (b : Bool) (i : CharmapIndex) → i .«subtable_offset» + 2 ≤ length font
-        → _≡_ {A = ℕ} (cond b (faceWith font i) (refusedFont 23) .refusal) 0
-        → cond b (faceWith font i) (refusedFont 23) .font .«charmap_index» .«subtable_offset» + 2 ≤ length font
-    last true i l e = l
-    last false i l e = absurd (omega arith)
+        → cond b (faceWith font i) (refusedFont 23) .font .«charmap_index» .«subtable_offset» ≤ length font
+    last true i l = omega arith
+    last false i l = omega arith
 
-    go : (b : Bool) (m : Charmap) → charmapIndex font ≡ m → _≡_ {A = ℕ} (cond b (withCharmap font m) (refusedFont 21) .refusal) 0
-        → cond b (withCharmap font m) (refusedFont 21) .font .«charmap_index» .«subtable_offset» + 2 ≤ length font
-    go true Missing c e = absurd (omega arith)
-    go true (Index i) c e = last (leb (axisCount (fvarOf font)) 16) i (index-inside font i c) e
-    go false m c e = absurd (omega arith)
+    go : (b : Bool) (m : Charmap) → charmapIndex font ≡ m
+        → cond b (withCharmap font m) (refusedFont 21) .font .«charmap_index» .«subtable_offset» ≤ length font
+    go true Missing c = omega arith
+    go true (Index i) c = last (leb (axisCount (fvarOf font)) 16) i (index-inside font i c)
+    go false m c = omega arith

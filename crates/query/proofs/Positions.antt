@@ -178,7 +178,7 @@ stays-at-end a = record { stays = λ s p h. go s p h (ltb p (length s)) }
     go s p h true = h
     go s p h false = h
 
-stays-sections : Stays readSections
+pub stays-sections : Stays readSections
 unfolding readSections
 stays-sections =
     stays-then (stays-counted 256 stays-face)

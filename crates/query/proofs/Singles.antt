@@ -54,3 +54,10 @@ ratio-finite nan e = refl
 ratio-finite (inf true) e = refl
 ratio-finite (inf false) e = refl
 ratio-finite (fin s m k) e = sym e ∙ absurd (let z : true ≡ false = e in let y : _≡_ {A = ℕ} 0 1 = cc in omega arith)
+
+pub accepted-finite : (x : Float) → acceptedRatio x ≡ true → finite x ≡ true
+accepted-finite x e = go (finite x) refl
+  where
+    go : (b : Bool) → finite x ≡ b → finite x ≡ true
+    go true h = h
+    go false h = absurd (let z : false ≡ true = ratio-finite x h ∙ e in let y : _≡_ {A = ℕ} 0 1 = cc in omega arith)

@@ -4,3 +4,12 @@ pub mod Fields
 pub mod Entries
 pub mod Job
 pub mod Layout
+pub mod Offers
+pub mod Record
+pub mod Cursor
+pub mod Sheet
+pub mod Located
+pub mod Load
+pub mod Call
+pub mod Answer
+pub mod Found

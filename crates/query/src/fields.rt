@@ -73,7 +73,7 @@ pub fn word(job: &[u8], at: usize) -> At
 }
 
 // Whether the bits are those of a number: no infinity and no NaN.
-fn finite_bits(bits: u32) -> bool
+pub fn finite_bits(bits: u32) -> bool
     ensures { λ r. ⌜ r ≡ finite (ofBits binary32 bits) ⌝ }
 {
     bits % 0x8000_0000 < 0x7F80_0000

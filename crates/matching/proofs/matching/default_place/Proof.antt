@@ -1,5 +1,4 @@
 use native.Mathlib.Omega.{arith}
-use Rattle.font.specs.Attributes.{attributesOf}
 use Rattle.font.specs.Single.{single}
 use lib.Ieee.{ofInt, round, ofBits}
 use mathlib.Core.Path.{_≡_, sym, _∙_, ap}

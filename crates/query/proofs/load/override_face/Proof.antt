@@ -1,0 +1,45 @@
+-- `query::load::override_face` meets its contract.
+-- Assumes nothing.
+use Rattle.query.proofs.Applied.{face-overridden}
+use borrow.Author.Needs.{needs}
+use Rattle.query.proofs.load.override_face.Statement.{statement}
+use Rattle.query.proofs.load.override_face.Tie as tie
+
+add-byte-at : tie.Need-add-byte-at
+add-byte-at c = search needs
+
+byte-at-requires : tie.Need-byte-at-requires
+byte-at-requires c κs = search needs
+
+cast-count : tie.Need-cast-count
+cast-count c = search needs
+
+add-with-pairs : tie.Need-add-with-pairs
+add-with-pairs c = search needs
+
+with-pairs-requires : tie.Need-with-pairs-requires
+with-pairs-requires c κs = search needs
+
+given-at-requires : tie.Need-given-at-requires
+given-at-requires c κs = search needs
+
+override-attributes-requires : tie.Need-override-attributes-requires
+override-attributes-requires c κs = search needs
+
+returns : tie.Need-returns
+returns c =
+    face-overridden (c .before .before .before .before .before .before .before .before .args .job .now) (c .before .before .before .before .before .before .before .before .args .at) (c .before .before .before .before .before .before .before .before .args .font) (c .before .before .before .before .before .with-pairs .result) (c .before .before .before .before .before .before .byte-at .result) (c .before .override-attributes .result) (c .before .before .given-at .result)
+    (c .before .before .before .before .before .before .byte-at .ensures) (c .before .before .before .before .before .with-pairs .ensures) (c .before .before .given-at .ensures) (c .before .override-attributes .ensures)
+
+pub override-face-spec : {M : Type 1} → statement M
+override-face-spec =
+    tie.close
+    (tie.spec
+    add-byte-at
+    byte-at-requires
+    cast-count
+    add-with-pairs
+    with-pairs-requires
+    given-at-requires
+    override-attributes-requires
+    returns)
