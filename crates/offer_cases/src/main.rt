@@ -1,0 +1,34 @@
+// Reads a list of jobs from standard input, each after its length, and prints for each what the program `offers` prints.
+//
+// The files `stdin` and `stdout` of this crate are what `cargo run --release -- jobs --out DIR` writes in
+// `rust/reference`: the list, and what the original sources answer on it. `rust/README.md` says what both hold, in
+// "The list of jobs".
+ghost use Prim.Native.Nat.{_^_, _<_, _≤_};
+use font::tables;
+use libc::STDIN_FILENO;
+use output::lines;
+
+// The lines of the job that the bytes start with. Answers how many bytes it takes, with its length.
+fn print_case(list: &[u8]) -> usize
+    ensures { λ r. ⌜ (4 ≤ r) × (r < 2 ^ 33) ⌝ }
+{
+    let end = 4 + tables::u32_at(list, 0) as usize;
+    if end <= list.len() {
+        lines::print_job(&list[4..end]);
+    }
+    end
+}
+
+fn print_list(list: &[u8]) {
+    let mut at: usize = 0;
+    while at < list.len() {
+        at += print_case(&list[at..]);
+    }
+}
+
+// A list has at most 600,000 bytes: what lies past them is not read.
+fn main() {
+    let mut space = [0u8; 600000];
+    let n = io::read_full(STDIN_FILENO, &mut space);
+    print_list(&space[..n]);
+}
