@@ -22,7 +22,8 @@ use Rattle.font.specs.Font.{fromFontRef}
 use Rattle.query.specs.Reader.{Refusal, pastEnd, Reader, refused, got, done, _>>=_}
 use Rattle.query.specs.Fields.{byte, word, ratio, value, byteCounted, heldByte, faceNumber, mask, kind, spareByte, spareWord, orSpare, fontRefusal, fontBytes, fontTaken, fontAt, fontFile}
 use Rattle.query.specs.Entries.{Face, Pair, Override, readFace, styleOfKind, readAngle, readStyle, readWidth, readWeight, styleOrSpare, readGiven, readPair, readOverride}
-use Rattle.query.specs.Load.{placeOf, runOf, faceAt, faceEnd, numberAt, styleAt, givenAt, pairAt, pairEnd, overrideAt, overrideEnd}
+use Rattle.query.specs.Located.{placeOf}
+use Rattle.query.specs.Load.{runOf, faceAt, faceEnd, numberAt, styleAt, givenAt, pairAt, pairEnd, overrideAt, overrideEnd}
 use Rattle.query.proofs.Ends.{then-got}
 use Rattle.query.proofs.Leaves.{byte-read, word-read, ratio-read, value-read, held-read, face-number-read, mask-read, kind-read, spare-byte-read, spare-word-read}
 use Rattle.query.proofs.Singles.{ratio-finite}

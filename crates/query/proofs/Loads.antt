@@ -17,7 +17,8 @@ use Rattle.font.specs.Single.{single, orderKey, wholePercent}
 use Rattle.font.specs.Tables.{u32At}
 use Rattle.matching.specs.Matching.{styleNumber, hasAxis, slnt}
 use Rattle.query.specs.Entries.{styleOfKind}
-use Rattle.query.specs.Load.{placeOf, faceAt, faceEnd, facePlace, fontAt, numberAt, styleAt, Whole, Loaded}
+use Rattle.query.specs.Located.{placeOf}
+use Rattle.query.specs.Load.{faceAt, faceEnd, facePlace, fontAt, numberAt, styleAt, Whole, Loaded}
 use Rattle.query.proofs.Ordered.{stored}
 
 -- ---- a number and a style of a job
@@ -53,9 +54,9 @@ module _ (s : List ℕ) (p k : ℕ) where
 
 -- ---- faces
 
-pub loaded-none : (s : List ℕ) (at : ℕ) (percents styles weights ratios : List ℕ) (slants held : List Bool) (starts : List ℕ)
-    → Whole percents styles weights ratios slants held starts → Loaded s at 0 percents styles weights ratios slants held starts
-loaded-none s at percents styles weights ratios slants held starts w =
+pub loaded-none : (s : List ℕ) (at : ℕ) (percents styles weights ratios : List ℕ) (slants held : List Bool)
+    → Whole percents styles weights ratios slants held → Loaded s at 0 percents styles weights ratios slants held
+loaded-none s at percents styles weights ratios slants held w =
     record {
       whole = w;
       numbers =
@@ -67,7 +68,6 @@ loaded-none s at percents styles weights ratios slants held starts w =
           };
       slant = λ i l. absurd (omega arith);
       isHeld = λ i l. absurd (omega arith);
-      start = λ i l. absurd (omega arith);
     }
 
 pub face-next : (s : List ℕ) (at i place n : ℕ) → place ≡ facePlace s at i → n ≡ u32At s (place + 1) → place + (5 + n) ≡ facePlace s at (i + 1)
@@ -80,14 +80,14 @@ module _ (s : List ℕ) (at i place : ℕ) (font : FontInfo) (p t w r : ℕ) (l 
   same-font : font ≡ fontAt s (facePlace s at i)
   same-font = read ∙ ap (fontAt s) here
 
-  pub loaded-more : {percents styles weights ratios : List ℕ} {slants held : List Bool} {starts : List ℕ}
-      → i < 256 → Loaded s at i percents styles weights ratios slants held starts
+  pub loaded-more : {percents styles weights ratios : List ℕ} {slants held : List Bool}
+      → i < 256 → Loaded s at i percents styles weights ratios slants held
       → p ≡ wholePercent (font .attributes .width .ratio) → t ≡ styleNumber (font .attributes .style)
       → w ≡ orderKey (font .attributes .weight .value) → r ≡ orderKey (font .attributes .width .ratio)
       → l ≡ hasAxis font slnt → h ≡ eqb (getD s place 0) 1
-      → Loaded s at (i + 1) (set percents i p) (set styles i t) (set weights i w) (set ratios i r) (set slants i l) (set held i h) (set starts i place)
+      → Loaded s at (i + 1) (set percents i p) (set styles i t) (set weights i w) (set ratios i r) (set slants i l) (set held i h)
   unfolding faceAt
-  loaded-more {percents} {styles} {weights} {ratios} {slants} {held} {starts} b so ep et ew er el eh =
+  loaded-more {percents} {styles} {weights} {ratios} {slants} {held} b so ep et ew er el eh =
       record {
         whole =
             record {
@@ -100,7 +100,6 @@ module _ (s : List ℕ) (at i place : ℕ) (font : FontInfo) (p t w r : ℕ) (l 
                   };
               slant = length-set slants i l ∙ so .whole .slant;
               isHeld = length-set held i h ∙ so .whole .isHeld;
-              start = length-set starts i place ∙ so .whole .start;
             };
         numbers =
             record {
@@ -123,5 +122,4 @@ module _ (s : List ℕ) (at i place : ℕ) (font : FontInfo) (p t w r : ℕ) (l 
         isHeld =
             stored false (λ j. faceAt s (facePlace s at j) .held) held i h (omega (arith, so .whole .isHeld)) (so .isHeld)
             (eh ∙ ap (λ (q : ℕ). eqb (getD s q 0) 1) here);
-        start = stored 0 (facePlace s at) starts i place (omega (arith, so .whole .start)) (so .start) here;
       }

@@ -10,7 +10,8 @@ use lib.Seq.{take-all, take-nil, drop-length, getD-set-same, getD-set-other}
 use borrow.Author.Tests.{leb-true, leb-false}
 use Rattle.matching.proofs.Ranks.{Tri, low, same, high, tri}
 use Rattle.query.specs.Reader.{Reader, got, done, many}
-use Rattle.query.specs.Load.{placeOf, runOf}
+use Rattle.query.specs.Located.{placeOf}
+use Rattle.query.specs.Load.{runOf}
 use Rattle.query.proofs.Ends.{then-got}
 
 -- the entries after the first are those from the second position on

@@ -6,18 +6,19 @@ use Prim.Native.Nat.{ℕ, _+_, _*_, _-_, _≤_}
 use mathlib.Core.Path.{_≡_, refl, ap, _∙_}
 use native.Mathlib.Omega.{arith}
 use borrow.Author.Needs.{needs}
-use Rattle.query.specs.Load.{placeOf, facePlace, Loaded}
+use Rattle.query.specs.Located.{placeOf}
+use Rattle.query.specs.Load.{facePlace, Loaded}
 use Rattle.query.proofs.Loads.{loaded-none, loaded-more, face-next}
 use Rattle.query.proofs.load.load_faces.Statement.{statement}
 use Rattle.query.proofs.load.load_faces.Tie as tie
 
 abbrev Inv-loop : tie.InvT-loop
-Inv-loop job at count percents₀ styles₀ weights₀ ratios₀ slants₀ held₀ starts₀ place₀ i₀ percents styles weights ratios slants held starts place i =
+Inv-loop job at count percents₀ styles₀ weights₀ ratios₀ slants₀ held₀ place₀ i₀ percents styles weights ratios slants held place i =
     (i ≤ count) × (place ≡ facePlace job at i) × (place ≤ at + i * 4294967300)
-    × Loaded job at i percents styles weights ratios slants held starts
+    × Loaded job at i percents styles weights ratios slants held
 
 abbrev μ-loop : tie.MeasureT-loop
-μ-loop job at count percents₀ styles₀ weights₀ ratios₀ slants₀ held₀ starts₀ place₀ i₀ percents styles weights ratios slants held starts place i =
+μ-loop job at count percents₀ styles₀ weights₀ ratios₀ slants₀ held₀ place₀ i₀ percents styles weights ratios slants held place i =
     count - i
 
 loop-holds : tie.Need-loop-holds Inv-loop μ-loop
@@ -26,7 +27,7 @@ loop-holds c = (
   omega arith,
   refl,
   omega arith,
-  loaded-none _ _ _ _ _ _ _ _ _ (c .before .pre .2),
+  loaded-none _ _ _ _ _ _ _ _ (c .before .pre .2),
 )
 
 font-at-requires : tie.Need-font-at-requires Inv-loop μ-loop
@@ -80,12 +81,6 @@ byte-at-requires c κs = search needs
 element-write-held : tie.Need-element-write-held Inv-loop μ-loop
 element-write-held c = omega arith
 
-mul-starts : tie.Need-mul-starts Inv-loop μ-loop
-mul-starts c = omega arith
-
-element-write-starts : tie.Need-element-write-starts Inv-loop μ-loop
-element-write-starts c = omega arith
-
 add-u32-at : tie.Need-add-u32-at Inv-loop μ-loop
 add-u32-at c = omega arith
 
@@ -118,10 +113,8 @@ loop-again c =
 
 returns : tie.Need-returns Inv-loop μ-loop
 returns c =
-    let end : c .before .loop .i ≡ c .before .before .before .args .count = omega arith in (
-      c .before .loop .inv .1 ∙ ap (facePlace (c .before .before .before .args .job .now) (c .before .before .before .args .at)) end,
-      rw end at (c .before .loop .inv .3),
-    )
+    let end : c .before .loop .i ≡ c .before .before .before .args .count = omega arith in
+    rw end at (c .before .loop .inv .3)
 
 pub load-faces-spec : {M : Type 1} → statement M
 load-faces-spec =
@@ -147,8 +140,6 @@ load-faces-spec =
     element-write-slants
     byte-at-requires
     element-write-held
-    mul-starts
-    element-write-starts
     add-u32-at
     u32-at-requires
     cast-place

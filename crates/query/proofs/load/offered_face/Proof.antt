@@ -4,7 +4,8 @@ use Prim.Native.Nat.{ℕ, _+_, _*_, _-_, _≤_}
 use mathlib.Core.Path.{_≡_, refl, ap, _∙_}
 use native.Mathlib.Omega.{arith}
 use Rattle.query.specs.Sheet.{afterOverrides}
-use Rattle.query.specs.Load.{placeOf, runOf, fontAt, overridePlace, overridesAt}
+use Rattle.query.specs.Located.{placeOf}
+use Rattle.query.specs.Load.{runOf, fontAt, overridePlace, overridesAt}
 use Rattle.query.proofs.Replacing.{override-next}
 use Rattle.query.proofs.Applied.{offered-few, offered-more}
 use Rattle.query.proofs.load.offered_face.Statement.{statement}
