@@ -450,7 +450,7 @@ pub fn compare_all(cases: impl Iterator<Item = Case>) -> io::Result<Counts> {
 }
 
 /// A difference or a panic is an error that tells the job in hexadecimal digits.
-fn compare(harness: &mut Harness, case: &Case) -> io::Result<String> {
+pub fn compare(harness: &mut Harness, case: &Case) -> io::Result<String> {
     let answer = panic::catch_unwind(AssertUnwindSafe(|| harness.compare(case)));
     let answer = answer.unwrap_or_else(|_| Err("a panic".into()));
     answer.map_err(|difference| {
