@@ -26,3 +26,4 @@ pub mod Inside
 pub mod Classes
 -- Section 3: overrides.
 pub mod Refusals
+pub mod Accepted

@@ -10,4 +10,5 @@ pub mod generate;
 pub mod layout;
 pub mod list;
 pub mod numbers;
+pub mod pairs;
 pub mod random;
