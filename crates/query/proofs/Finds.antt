@@ -20,7 +20,7 @@ use Rattle.query.specs.Job.{Job, readJob, checkJob}
 use Rattle.query.specs.Offers.{Faces, facesOf, facesOfLists, offers, offerAt, pick, offerOf, familiesAt, membersAt, listAt, fallbacksAt, Small}
 use Rattle.query.specs.Sheet.{afterOverrides, fontOf, heldOf, membersOf, familiesOf, offersOf, faceOfOffer}
 use Rattle.query.specs.Located.{familyPlace, overridesPlace, familiesPlace, requestedAt}
-use Rattle.query.specs.Load.{facePlace, fontAt, overridesAt, Loaded, Replaced, LaidOut}
+use Rattle.query.specs.Load.{facePlace, fontAt, overridesAt, Fonts, Loaded, Replaced, LaidOut}
 use Rattle.query.specs.Call.{requestOfJob}
 use Rattle.query.specs.Found.{Placed, Agrees, Lies, Told, Names, Named}
 use Rattle.query.proofs.Picked.{pick-in, pick-past}
@@ -50,6 +50,9 @@ module _ (s : List ℕ) (accepted : checkJob s .refusal ≡ 0) where
   -- what `load` asks of the faces and of the overrides
   pub few-faces : u16At s 0 ≤ 256
   few-faces = lay .few
+
+  pub fonts : (n : ℕ) → n ≡ u16At s 0 → Fonts s 2 n
+  fonts n count = rw count (lay .fonts)
 
   module _ (section : ℕ) (here : section ≡ overridesPlace s) where
     pub section-in : (section + 2 ≤ length s) × (length s ≤ 16777216)

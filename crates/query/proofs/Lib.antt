@@ -35,6 +35,7 @@ pub mod Glued
 pub mod Called
 -- From a job's bytes to the numbers of its faces.
 pub mod Ordered
+pub mod Stated
 pub mod Loads
 pub mod Replacing
 pub mod Laid

@@ -21,11 +21,11 @@ use Rattle.query.specs.Offers.{facesOf, facesOfLists}
 use Rattle.query.specs.Sheet.{afterOverrides, entryOf, fontOf, heldOf}
 use Rattle.query.specs.Located.{placeOf, overridesPlace}
 use Rattle.query.specs.Found.{SameFaces}
-use Rattle.query.specs.Load.{runOf, faceAt, faceEnd, facePlace, fontAt, overrideAt, overrideEnd, overridesAt, Numbers, Loaded, Replaced, LaidOut}
+use Rattle.query.specs.Load.{runOf, faceAt, faceEnd, facePlace, fontAt, overrideAt, overrideEnd, overridesAt, Numbers, Fonts, Loaded, Replaced, LaidOut}
 use Rattle.query.proofs.Ends.{then-got}
 use Rattle.query.proofs.Leaves.{count-read}
-use Rattle.query.proofs.Ordered.{run-at, run-length, many-run}
-use Rattle.query.proofs.Laid.{face-laid, override-laid}
+use Rattle.query.proofs.Ordered.{run-at, run-length, many-run, many-each}
+use Rattle.query.proofs.Laid.{face-laid, face-taken, override-laid}
 use Rattle.query.proofs.Applied.{after-axis}
 
 -- ---- the sections of an accepted job
@@ -50,6 +50,27 @@ section-laid entry next limit r s each p xs q e =
       end = run .1 ∙ (λ k. placeOf next (n .next k) (n .value k));
       limited = rw (n .value) at (leb-true (a .0) limit (n .passed));
       inside = n .inside;
+    }
+
+section-each : {A : Type 0} (P : A → Type 0) (d : A) (limit : ℕ) (r : Reader A) (s : List ℕ) → ((p : ℕ) (a : A) (q : ℕ) → r s p ≡ got a q → P a)
+    → (p : ℕ) (xs : List A) (q : ℕ) → counted limit r s p ≡ got xs q → (i : ℕ) → i < length xs → P (getD xs i d)
+unfolding counted
+section-each P d limit r s each p xs q e =
+    let a = then-got (count limit) (λ n. many n r) s p xs q e in
+    many-each P d r s each (a .0) (a .1) xs q (a .3)
+
+-- the fonts of a section of faces
+fonts-taken : (s : List ℕ) (fs : List Face) (q : ℕ) → counted 256 readFace s 0 ≡ got fs q → fs ≡ runOf (faceAt s) (faceEnd s) 2 (u16At s 0) → Fonts s 2 (u16At s 0)
+unfolding facePlace
+fonts-taken s fs q e is =
+    record {
+      taken =
+          λ i l.
+          let entry : getD fs i (record { held = false; font = [] }) ≡ faceAt s (placeOf (faceEnd s) 2 i) =
+          ap (λ (xs : List Face). getD xs i (record { held = false; font = [] })) is ∙ run-at (faceAt s) (faceEnd s) 2 (u16At s 0) i _ l in
+          rw entry at
+          (section-each (λ (f : Face). fromFontRef (f .font) .refusal ≡ 0) (record { held = false; font = [] }) 256 readFace s (face-taken s) 0 fs q e i
+          (omega (arith, ap length is, run-length (faceAt s) (faceEnd s) 2 (u16At s 0))));
     }
 
 end-laid : (a j : Job) (s : List ℕ) (p e : ℕ) → atEnd a s p ≡ got j e → j ≡ a
@@ -79,6 +100,7 @@ sections-laid s j e short h =
       short = short;
       few = faces .limited;
       faces = ap (λ (x : Job). x .faces) is ∙ faces .entries;
+      fonts = fonts-taken s (a .0) (a .1) (a .2) (faces .entries);
       inside = rw start at (overrides .inside);
       fewOverrides = rw start at (overrides .limited);
       overrides = ap (λ (x : Job). x .overrides) is ∙ overrides .entries ∙ ap (λ (p : ℕ). runOf (overrideAt s) (overrideEnd s) (p + 2) (u16At s p)) start;

@@ -118,6 +118,10 @@ pub record Whole (percents styles weights ratios : List ℕ) (slants held : List
   pub slant : length slants ≡ 256
   pub isHeld : length held ≡ 256
 
+-- none of the n font files whose first lies in the entry at a position is refused
+pub record Fonts (s : List ℕ) (at n : ℕ) : Type 0 where
+  pub taken : (i : ℕ) → i < n → fromFontRef (faceAt s (facePlace s at i) .font) .refusal ≡ 0
+
 -- what the lists say of the n faces whose first lies at a position
 pub record Loaded (s : List ℕ) (at n : ℕ) (percents styles weights ratios : List ℕ) (slants held : List Bool) : Type 0 where
   pub whole : Whole percents styles weights ratios slants held
@@ -138,4 +142,5 @@ pub record LaidOut (s : List ℕ) (job : Job) : Type 0 where
   pub faces : job .faces ≡ runOf (faceAt s) (faceEnd s) 2 (u16At s 0)
   pub inside : overridesPlace s + 2 ≤ length s
   pub fewOverrides : u16At s (overridesPlace s) ≤ 256
+  pub fonts : Fonts s 2 (u16At s 0)
   pub overrides : job .overrides ≡ overridesAt s (overridesPlace s + 2) (u16At s (overridesPlace s))

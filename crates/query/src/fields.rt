@@ -8,7 +8,7 @@ ghost use lib.Ieee.Scale.{finite};
 ghost use Rattle.font.specs.Single.{acceptedRatio};
 ghost use Rattle.query.specs.Reader.{ended};
 ghost use Rattle.query.specs.Fields.{fieldEnd, byte, half, word, ratio, value, count, heldByte, faceNumber, mask, kind, spareByte, spareWord, fontFile};
-use font::font::FontInfo;
+use font::font::font_refusal;
 use font::single;
 use font::tables;
 
@@ -159,14 +159,13 @@ pub(crate) fn font_file(job: &[u8], at: usize) -> At
         return At { refusal: 18, at };
     }
     let end = start + size;
-    let font = FontInfo::from_font_ref(&job[start..end]);
-    if font.refusal == 0 {
+    let refusal = font_refusal(&job[start..end]);
+    if refusal == 0 {
         At {
             refusal: 0,
             at: end,
         }
     } else {
-        let refusal = font.refusal;
         At { refusal, at }
     }
 }

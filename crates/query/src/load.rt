@@ -8,7 +8,7 @@ ghost use Rattle.query.specs.Sheet.{overriddenBy, afterOverrides};
 ghost use Rattle.query.specs.Job.{checkJob};
 ghost use Rattle.query.specs.Offers.{facesOfLists};
 ghost use Rattle.query.specs.Located.{overridesPlace};
-ghost use Rattle.query.specs.Load.{runOf, facePlace, fontAt, numberAt, styleAt, givenAt, pairAt, pairEnd, withAxes, afterPairs, overrideAt, overrideEnd, overridesAt, Long, Whole, Loaded, Replaced};
+ghost use Rattle.query.specs.Load.{runOf, faceAt, facePlace, fontAt, numberAt, styleAt, givenAt, pairAt, pairEnd, withAxes, afterPairs, overrideAt, overrideEnd, overridesAt, Long, Whole, Fonts, Loaded, Replaced};
 ghost use Rattle.query.specs.Found.{Agrees};
 use crate::fields;
 use font::attributes::Angle;
@@ -17,6 +17,8 @@ use font::attributes::FontWeight;
 use font::attributes::FontWidth;
 use font::font::AxisInfo;
 use font::font::FontInfo;
+use font::font::read_attributes;
+use font::font::states_axis;
 use font::overrides;
 use font::overrides::FontInfoOverride;
 use font::overrides::StyleOverride;
@@ -33,15 +35,23 @@ fn least(a: usize, b: usize) -> usize
     if a < b { a } else { b }
 }
 
+// The font file of the face whose entry lies at a position.
+fn file_at<'a>(job: &'a [u8], at: usize) -> &'a [u8]
+    requires { ⌜ at < 2 ^ 63 ⌝ }
+    ensures { λ r. ⌜ now r ≡ faceAt (now (job .entry)) at .font ⌝ }
+{
+    let size = tables::u32_at(job, at + 1) as usize;
+    let start = least(at + 5, job.len());
+    let end = least(start + size, job.len());
+    &job[start..end]
+}
+
 // The face whose entry lies at a position, as its file states it.
 fn font_at(job: &[u8], at: usize) -> FontInfo
     requires { ⌜ at < 2 ^ 63 ⌝ }
     ensures { λ r. ⌜ r ≡ fontAt (now (job .entry)) at ⌝ }
 {
-    let size = tables::u32_at(job, at + 1) as usize;
-    let start = least(at + 5, job.len());
-    let end = least(start + size, job.len());
-    let checked = FontInfo::from_font_ref(&job[start..end]);
+    let checked = FontInfo::from_font_ref(file_at(job, at));
     let font = checked.font;
     font
 }
@@ -59,19 +69,20 @@ fn load_faces(
     held: &mut [bool; 256],
 )
     requires { ⌜ (at < 2 ^ 32) × (count ≤ 256) × Whole (now percents) (now styles) (now weights) (now ratios) (now slants) (now held) ⌝ }
+    requires { ⌜ Fonts (now job) at count ⌝ }
     ensures { λ _. ⌜ Loaded (now (job .entry)) at count (now (percents .exit)) (now (styles .exit)) (now (weights .exit)) (now (ratios .exit)) (now (slants .exit)) (now (held .exit)) ⌝ }
 {
     let mut place = at;
     let mut i: usize = 0;
     while i < count {
-        let font = font_at(job, place);
-        let attributes = font.attributes;
+        let file = file_at(job, place);
+        let attributes = read_attributes(file);
         let style = attributes.style;
         percents[i] = single::whole_percent(attributes.width.ratio);
         styles[i] = faces::style_number(style);
         weights[i] = single::order_number(attributes.weight.value);
         ratios[i] = single::order_number(attributes.width.ratio);
-        slants[i] = axes::has_axis(font, axes::SLNT);
+        slants[i] = states_axis(file, axes::SLNT);
         held[i] = fields::byte_at(job, place) == 1;
         place += 5 + tables::u32_at(job, place + 1) as usize;
         i += 1;

@@ -6,32 +6,15 @@ ghost use lib.ListN.{length, getD};
 ghost use lib.Ieee.Scale.{finite};
 ghost use Rattle.font.specs.Tables.{u16At};
 ghost use Rattle.query.specs.Offers.{fallbacksAt};
-ghost use Rattle.query.specs.Located.{overridesPlace, familiesPlace, familyPlace, requestPlace, singleAt, styleAt, StyleKnown, requestedAt, RequestedKnown};
+ghost use Rattle.query.specs.Located.{familyPlace, requestPlace, singleAt, styleAt, StyleKnown, requestedAt, RequestedKnown};
 use crate::fields;
 use crate::offers;
-use crate::sections;
 use font::attributes::Angle;
 use font::attributes::Attributes;
 use font::attributes::FontStyle;
 use font::attributes::FontWeight;
 use font::attributes::FontWidth;
 use font::tables;
-
-// Where the section of the overrides lies, in an accepted job.
-pub(crate) fn overrides_at(job: &[u8]) -> usize
-    ensures { λ r. ⌜ r ≡ overridesPlace (now (job .entry)) ⌝ }
-{
-    let faces = sections::faces(job, 0);
-    faces.at
-}
-
-// Where the section of the families lies, in an accepted job.
-pub(crate) fn families_at(job: &[u8]) -> usize
-    ensures { λ r. ⌜ r ≡ familiesPlace (now (job .entry)) ⌝ }
-{
-    let overrides = sections::overrides(job, overrides_at(job), tables::u16_at(job, 0));
-    overrides.at
-}
 
 // The positions of `count` families, of which the first lies at a position; and the position after the last.
 pub(crate) fn load_families(job: &[u8], at: usize, count: usize, family_at: &mut [u32; 64]) -> usize

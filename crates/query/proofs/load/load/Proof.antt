@@ -1,7 +1,7 @@
 -- `query::load::load` meets its contract: a law of `Finds` for each call.
 -- Assumes nothing.
 use native.Mathlib.Omega.{arith}
-use Rattle.query.proofs.Finds.{few-faces, section-in, few-overrides, agrees}
+use Rattle.query.proofs.Finds.{few-faces, fonts, section-in, few-overrides, agrees}
 use borrow.Author.Needs.{needs}
 use Rattle.query.proofs.load.load.Statement.{statement}
 use Rattle.query.proofs.load.load.Tie as tie
@@ -13,7 +13,10 @@ cast-faces : tie.Need-cast-faces
 cast-faces c = search needs
 
 load-faces-requires : tie.Need-load-faces-requires
-load-faces-requires c κs = (omega arith, omega (arith, few-faces _ (c .before .before .before .before .before .before .before .before .pre .0), c .before .before .before .before .before .before .u16-at .ensures), c .before .before .before .before .before .before .before .before .pre .2)
+load-faces-requires c κs =
+    let accepted = c .before .before .before .before .before .before .before .before .pre .0 in
+    let count = c .before .before .before .before .before .before .u16-at .ensures in
+    ((omega arith, omega (arith, few-faces _ accepted, count), c .before .before .before .before .before .before .before .before .pre .2), fonts _ accepted _ count)
 
 u16-at-requires-2 : tie.Need-u16-at-requires-2
 u16-at-requires-2 c κs = search needs
