@@ -8,20 +8,19 @@
 use std::{
     env,
     path::{Path, PathBuf},
-    process::{Command, ExitCode, Stdio},
+    process::{Command, Stdio},
 };
 
 const DEFAULT: &str = "target/staticlib/libstemhook.a";
 const SCRIPT: &str = "tools/static-library";
 
-fn main() -> ExitCode {
+fn main() {
     println!("cargo::rerun-if-changed=build.rs");
     println!("cargo::rerun-if-env-changed=STEMHOOK_LIB");
     if let Err(message) = library().and_then(|library| link(&library)) {
+        // Ends the build, with the message.
         println!("cargo::error={message}");
-        return ExitCode::FAILURE;
     }
-    ExitCode::SUCCESS
 }
 
 /// The library's file, made where it can be.

@@ -1,7 +1,7 @@
 /* Reads a job from standard input and prints its offers, or why it is refused: `requests N`, then for each offer the
  * request, family, place, b or -, skew, and tag=bits for each setting.
  *
- *     cc -I include examples/offers.c ../../target/staticlib/libstemhook.a -o offers && ./offers <JOB
+ *     cc -I include examples/offers.c ../../target/staticlib/libstemhook.a -o target/offers && target/offers <JOB
  */
 #include <inttypes.h>
 #include <stdio.h>
