@@ -333,6 +333,59 @@ fn styles_are_read_as_they_were_meant() {
 }
 
 #[test]
+fn every_style_finds_the_face_that_has_it() {
+    let styles = [
+        Style::Normal,
+        Style::Italic,
+        Style::Oblique(Angle::Unstated),
+        Style::Oblique(Angle::Degrees(14.0)),
+        Style::Oblique(Angle::Degrees(-14.0)),
+    ];
+    let mut builder = JobBuilder::new();
+    for (face, own) in styles.into_iter().enumerate() {
+        let given = Override {
+            style: Some(own),
+            ..Override::default()
+        };
+        builder.face(&fonts::weight(400), true).unwrap();
+        builder.override_face(face as u16, &given).unwrap();
+        builder.request(&request(style(own))).unwrap();
+    }
+    builder.family(&[0, 1, 2, 3, 4]).unwrap();
+    let job = builder.build().unwrap();
+    for asked in 0..5 {
+        let first = job.offers(asked).unwrap().next().unwrap();
+        assert_eq!((u32::from(first.place), first.skew), (asked, 0));
+    }
+}
+
+#[test]
+fn numbers_at_their_bounds_are_taken() {
+    let mut builder = one_face();
+    for number in [0.0, -0.0, f32::MIN_POSITIVE, 1.0, 16.0] {
+        let given = Override {
+            width: Some(number),
+            ..Override::default()
+        };
+        builder.override_face(0, &given).unwrap();
+        builder.request(&request(width(number))).unwrap();
+    }
+    for number in [0.0, -0.0, f32::MIN, f32::MAX] {
+        let oblique = Style::Oblique(Angle::Degrees(number));
+        let given = Override {
+            style: Some(oblique),
+            weight: Some(number),
+            pairs: vec![(Tag::WGHT, number)],
+            ..Override::default()
+        };
+        builder.override_face(0, &given).unwrap();
+        builder.request(&request(style(oblique))).unwrap();
+        builder.request(&request(weight(number))).unwrap();
+    }
+    assert_eq!(builder.build().unwrap().requests(), 13);
+}
+
+#[test]
 fn overrides_are_read_as_they_were_meant() {
     let fixed = fonts::weight(400);
     let given = Override {
