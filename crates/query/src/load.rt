@@ -335,17 +335,6 @@ fn override_face(job: &[u8], at: usize, font: FontInfo) -> FontInfo
     }
 }
 
-// A face after the override at a position, if that names it.
-fn override_named(job: &[u8], at: usize, number: usize, font: FontInfo) -> FontInfo
-    requires { ⌜ (at < 2 ^ 63) × (font .«axis_count» ≤ 16) ⌝ }
-    ensures { λ r. ⌜ r ≡ afterOverrides (overrideAt (now (job .entry)) at ∷ []) number font ⌝ }
-{
-    if tables::u16_at(job, at) as usize == number {
-        return override_face(job, at, font);
-    }
-    font
-}
-
 // The face of a number, whose entry lies at `face_at`, after the `count` overrides from `at` on.
 pub(crate) fn offered_face(
     job: &[u8],
@@ -361,8 +350,10 @@ pub(crate) fn offered_face(
     let mut place = at;
     let mut i: usize = 0;
     while i < count {
-        let next = override_named(job, place, number, font);
-        font = next;
+        if tables::u16_at(job, place) as usize == number {
+            let next = override_face(job, place, font);
+            font = next;
+        }
         place = override_end(job, place);
         i += 1;
     }
