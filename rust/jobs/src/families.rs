@@ -85,6 +85,34 @@ pub fn random(seed: u64) -> impl Iterator<Item = Case> {
     std::iter::repeat_with(move || random_case(&mut r))
 }
 
+/// The same, and in one of eight both zeros among the weights, the ratios or
+/// both, of the faces as of the request.
+pub fn with_zeros(seed: u64) -> impl Iterator<Item = Case> {
+    let mut r = Random::new(!seed);
+    random(seed).map(move |mut case| {
+        if r.chance(1, 8) {
+            let which = r.pick(&[(true, false), (false, true), (true, true)]);
+            put_zeros(&mut r, &mut case, which);
+        }
+        case
+    })
+}
+
+fn put_zeros(r: &mut Random, case: &mut Case, (weights, ratios): (bool, bool)) {
+    let mut put = |ratio: &mut f32, weight: &mut f32| {
+        if weights && r.chance(2, 3) {
+            *weight = r.pick(&[0.0, -0.0]);
+        }
+        if ratios && r.chance(2, 3) {
+            *ratio = r.pick(&[0.0, -0.0]);
+        }
+    };
+    put(&mut case.request.ratio, &mut case.request.weight);
+    for face in &mut case.faces {
+        put(&mut face.ratio, &mut face.weight);
+    }
+}
+
 fn case(synthesis: bool, ratio: f32, style: Style, weight: f32, faces: &[FacePlan]) -> Case {
     Case {
         synthesis,

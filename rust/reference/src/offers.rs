@@ -352,16 +352,9 @@ fn refused_calls(bytes: &[u8], number: u32) -> Result<(), String> {
     Ok(())
 }
 
-/// Whether the answer is the one that is known by how the job was built. A
-/// font that is refused and stands before comes first.
+/// Whether the answer is the one that is known by how the job was built.
 fn known(number: u32, position: usize, expected: Expected) -> Result<(), String> {
-    let font = (21..=23).contains(&number);
-    let agrees = match expected {
-        Expected::Unknown => true,
-        Expected::Accepted => number == 0 || font,
-        Expected::Refused(n, at) => (number, position) == (n, at) || (font && position < at),
-    };
-    if agrees {
+    if expected.allows(number, position) {
         return Ok(());
     }
     Err(format!(
