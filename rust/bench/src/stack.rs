@@ -84,7 +84,8 @@ mod tests {
     fn array_is_seen() {
         let nothing = used(&mut || {});
         let array = used(&mut || {
-            black_box([1u8; 50_000]);
+            let array = [1u8; 50_000];
+            black_box(&array);
         });
         assert!(nothing < 20_000, "{nothing}");
         assert!((50_000..70_000).contains(&array), "{array}");
