@@ -48,10 +48,10 @@ fn options(mut args: impl Iterator<Item = String>) -> Option<Options> {
     Some(options)
 }
 
-/// The jobs made for a purpose, then random ones.
+/// The jobs made for a purpose, the largest, then random ones.
 fn compare_jobs(seed: u64, count: u64) -> Result<String, String> {
     let mut sides = Sides::new(job::PROVED);
-    let made = list::made().into_iter();
+    let made = list::made().into_iter().chain(list::largest());
     for case in made.chain(list::random(seed).take(count as usize)) {
         sides.compare(&case)?;
     }
