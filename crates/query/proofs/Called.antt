@@ -11,8 +11,8 @@ use lib.IntN.{ℤ}
 use Rattle.matching.specs.declared.synthesis.Setting.{Setting}
 use Rattle.matching.specs.declared.synthesis.Setting.the-variants.{Unset, Set}
 use Rattle.matching.specs.Synthesis.{unvaried, put, added, synthesized}
-use Rattle.query.specs.declared.offers.Offer.{Offer}
-use Rattle.query.specs.declared.call.Answer.{Answer}
+use Rattle.query.specs.declared.answer.Offer.{Offer}
+use Rattle.query.specs.declared.answer.Answer.{Answer}
 use Rattle.query.specs.Reader.{Got, refused, got}
 use Rattle.query.specs.Entries.{Request}
 use Rattle.query.specs.Job.{Job, readJob, answer, checkJob}

@@ -16,10 +16,10 @@ use Rattle.font.specs.Font.{fromFontRef}
 use Rattle.font.proofs.Inside.{offset-inside}
 use Rattle.matching.specs.declared.synthesis.Synthesis.{Synthesis}
 use Rattle.matching.specs.Synthesis.{synthesized, variesOf}
-use Rattle.query.specs.declared.offers.Offer.{Offer}
+use Rattle.query.specs.declared.answer.Offer.{Offer}
 use Rattle.query.specs.declared.offers.Offered.{Offered}
 use Rattle.query.specs.declared.offers.Offered.the-variants.{At, Past}
-use Rattle.query.specs.declared.call.Answer.{Answer}
+use Rattle.query.specs.declared.answer.Answer.{Answer}
 use Rattle.query.specs.Reader.{Got, refused, got}
 use Rattle.query.specs.Entries.{Face, Request, Override}
 use Rattle.query.specs.Job.{Job, readJob, checkJob}

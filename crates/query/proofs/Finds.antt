@@ -12,7 +12,7 @@ use Rattle.font.specs.declared.font.FontInfo.{FontInfo}
 use Rattle.font.specs.Tables.{u16At}
 use Rattle.matching.specs.declared.order.Request.{Request}
 use Rattle.matching.specs.Matching.{requestOf}
-use Rattle.query.specs.declared.offers.Offer.{Offer}
+use Rattle.query.specs.declared.answer.Offer.{Offer}
 use Rattle.query.specs.declared.offers.Offered.{Offered}
 use Rattle.query.specs.declared.offers.Offered.the-variants.{At, Past}
 use Rattle.query.specs.Reader.{got}

@@ -12,7 +12,7 @@ use Rattle.font.specs.Tables.{u16At}
 use Rattle.matching.specs.declared.order.Request.{Request}
 use Rattle.matching.specs.Order.{Face}
 use Rattle.matching.specs.Matching.{requestOf, blank}
-use Rattle.query.specs.declared.offers.Offer.{Offer}
+use Rattle.query.specs.declared.answer.Offer.{Offer}
 use Rattle.query.specs.Reader.{overlong, bytesLeft, Got, refused, got, _>>=_, ended}
 use Rattle.query.specs.Fields.{counted}
 use Rattle.query.specs.Entries.{Family, readFace, readOverride, readFamily, readRequest}

@@ -13,7 +13,7 @@ use Rattle.matching.specs.declared.order.Request.{Request}
 use Rattle.matching.specs.Below.{placesBelow}
 use Rattle.matching.specs.Order.{choice}
 use Rattle.matching.proofs.Below.{both}
-use Rattle.query.specs.declared.offers.Offer.{Offer}
+use Rattle.query.specs.declared.answer.Offer.{Offer}
 use Rattle.query.specs.Offers.{Group, Faces, Families, equalFaces, heldEqual, offersDefault, defaultPlace, defaultOffers, familyOffers, groupOf, offerOf, numberOffers, inTurn, offers}
 
 -- a property of every element

@@ -9,10 +9,10 @@ use Rattle.font.specs.Tables.{u16At}
 use Rattle.font.specs.declared.attributes.Attributes.{Attributes}
 use Rattle.font.specs.declared.font.FontInfo.{FontInfo}
 use Rattle.query.specs.declared.job.Places.{Places}
-use Rattle.query.specs.declared.offers.Offer.{Offer}
+use Rattle.query.specs.declared.answer.Offer.{Offer}
 use Rattle.query.specs.declared.offers.Offered.{Offered}
 use Rattle.query.specs.declared.offers.Offered.the-variants.{At}
-use Rattle.query.specs.declared.call.Answer.{Answer}
+use Rattle.query.specs.declared.answer.Answer.{Answer}
 use Rattle.query.specs.Reader.{ended, got}
 use Rattle.query.specs.Job.{Job, readSections, readJob, checkJob}
 use Rattle.query.specs.Offers.{Faces, facesOf, offerAt, fallbacksAt}

@@ -13,7 +13,7 @@ use Rattle.matching.specs.declared.order.Request.{Request}
 use Rattle.matching.specs.Order.{Face, Family, choice, faceOfLists, familyOfLists}
 use Rattle.matching.specs.Below.{placesBelow}
 use Rattle.matching.specs.Matching.{faceOf, blank, requestOf}
-use Rattle.query.specs.declared.offers.Offer.{Offer}
+use Rattle.query.specs.declared.answer.Offer.{Offer}
 use Rattle.query.specs.declared.offers.FamilyOffer.{FamilyOffer}
 use Rattle.query.specs.declared.offers.FamilyOffer.the-variants as Family'
 use Rattle.query.specs.declared.offers.ListOffer.{ListOffer}
