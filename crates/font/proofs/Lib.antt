@@ -24,5 +24,7 @@ pub mod Lookup
 pub mod Records
 pub mod Inside
 pub mod Classes
+pub mod FaceOf
 -- Section 3: overrides.
 pub mod Refusals
+pub mod Accepted

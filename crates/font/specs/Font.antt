@@ -10,7 +10,7 @@ use Rattle.font.specs.declared.charmap.Charmap.the-variants.{Missing, In
 use Rattle.font.specs.declared.font.AxisInfo.{AxisInfo}
 use Rattle.font.specs.declared.font.FontInfo.{FontInfo}
 use Rattle.font.specs.declared.font.Checked.{Checked}
-use Rattle.font.specs.First.{tabulate}
+use Rattle.font.specs.First.{first, tabulate}
 use Rattle.font.specs.Single.{single, fixedToSingle}
 use Rattle.font.specs.Attributes.{defaultAttributes}
 use Rattle.font.specs.Tables.{u16At, u32At, tableData, directoryFits}
@@ -81,3 +81,8 @@ withCharmap font (Index index) = withIndex font index
 -- "bad start or directory past file" is refusal 21
 unfoldable pub fromFontRef : List ℕ → Checked
 fromFontRef font = cond (directoryFits font) (withCharmap font (charmapIndex font)) (refusedFont 21)
+
+-- whether an axis with the tag is among those that a font file gives
+unfoldable pub statesAxis : List ℕ → ℕ → Bool
+statesAxis font tag =
+    ltb (first (λ i. eqb (axisAt (fvarOf font) i .tag) tag) (axisCount (fvarOf font))) (axisCount (fvarOf font))

@@ -1,9 +1,12 @@
 // Model for a font.
 ghost use mathlib.Core.Path.{_≡_};
+ghost use mathlib.Core.Bool.{cond};
 ghost use Prim.Native.Nat.{_<_, _≤_};
+ghost use lib.Dec.{leb, eqb};
+ghost use Rattle.font.specs.First.{first};
 ghost use Rattle.font.specs.Reading.{widthOfClass, postAngle, os2Style, fromOs2Post, headStyle, headWeight, fromHead, readAttributes};
 ghost use Rattle.font.specs.Tables.{tableData};
-ghost use Rattle.font.specs.Font.{axisCount, axisAt, axesOf, refusedFont, withIndex, fromFontRef};
+ghost use Rattle.font.specs.Font.{fvarOf, axisCount, axisAt, axesOf, refusedFont, withIndex, fromFontRef, statesAxis};
 use crate::attributes::Angle;
 use crate::attributes::Attributes;
 use crate::attributes::FontStyle;
@@ -244,4 +247,51 @@ fn with_index(font: &[u8], index: CharmapIndex) -> Checked
             charmap_index: index,
         },
     }
+}
+
+// 23 for a font file with over 16 axes, or 0.
+fn axes_refusal(font: &[u8]) -> u8
+    ensures { λ r. ⌜ r ≡ cond (leb (axisCount (fvarOf (now (font .entry)))) 16) 0 23 ⌝ }
+{
+    let fvar = tables::table_data(font, FVAR, 16);
+    if 16 < axis_count(fvar) { 23 } else { 0 }
+}
+
+// The number with which `from_font_ref` refuses a font file, or 0.
+pub fn font_refusal(font: &[u8]) -> u8
+    ensures { λ r. ⌜ r ≡ fromFontRef (now (font .entry)) .refusal ⌝ }
+{
+    if tables::directory_fits(font) {
+        match CharmapIndex::new(font) {
+            Charmap::Index(_) => axes_refusal(font),
+            Charmap::Missing => 22,
+        }
+    } else {
+        21
+    }
+}
+
+// The first of `count` axis records with the tag, or the count where there is none.
+fn axis_record(fvar: &[u8], count: usize, tag: u32) -> usize
+    requires { ⌜ count < 65536 ⌝ }
+    ensures { λ r. ⌜ r ≡ first (λ i. eqb (axisAt (now (fvar .entry)) i .tag) tag) count ⌝ }
+{
+    let offset = tables::u16_at(fvar, 4) as usize;
+    let mut i: usize = 0;
+    while i < count {
+        if tables::u32_at(fvar, offset + 20 * i) == tag {
+            return i;
+        }
+        i += 1;
+    }
+    count
+}
+
+// Whether a font file gives an axis with the tag.
+pub fn states_axis(font: &[u8], tag: u32) -> bool
+    ensures { λ r. ⌜ r ≡ statesAxis (now (font .entry)) tag ⌝ }
+{
+    let fvar = tables::table_data(font, FVAR, 16);
+    let count = axis_count(fvar);
+    axis_record(fvar, count, tag) < count
 }

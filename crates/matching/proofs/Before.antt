@@ -1,6 +1,6 @@
 -- Laws of section 4's relation "stands before", for a family of at most 64 faces whose numbers are of 32 bits, as every family by value is:
 -- no face stands before itself, no two stand before each other, it is transitive, and of two different faces one stands before the other
--- unless they have one percent and neither has a group.
+-- unless they have one percent and neither has a group; then neither stands before the other.
 use Prim.Native.Nat.{ℕ, _^_, _≤_, _<_}
 use mathlib.Core.Path.{_≡_, refl, sym, _∙_, ap}
 use mathlib.Core.Bool.{Bool, true, false, not, _&&_, _||_}
@@ -12,7 +12,7 @@ use Rattle.font.specs.First.{first}
 use Rattle.matching.specs.declared.order.Request.{Request}
 use Rattle.matching.specs.declared.rank.Standing.{Standing}
 use Rattle.matching.specs.declared.rank.Standing.the-variants.{Up, Down, Nowhere}
-use Rattle.matching.specs.Rank.{grouped}
+use Rattle.matching.specs.Rank.{lower, before, grouped}
 use Rattle.matching.specs.Packed.{packed}
 use Rattle.matching.specs.Below.{some, last}
 use Rattle.matching.specs.Order.{Family, widthStanding, styleStanding, samePercent, bears, slantAt, inWidth, inStyle, inWeight, bearerOf, bearer, hasGroup, widthBefore, styleBefore, weightBefore, standsBefore}
@@ -153,6 +153,45 @@ module _ (family : Family) (request : Request) where
       go (Up t x) e = let r = first-found (bears family i) (family .count) i h (bears-self family i) in (r .0, r .1)
       go (Down t x) e = let r = last-found (bears family i) (family .count) i h (bears-self family i) in (r .0, r .1)
       go Nowhere e = absurd (clash e refl)
+
+-- nothing is before itself, and what is in no group is before nothing
+before-self : (s : Standing) (p : ℕ) → before s p s p ≡ false
+unfolding before lower
+before-self (Up t x) p = rw (le-ltb t t (omega arith), le-ltb x x (omega arith), le-ltb p p (omega arith), eq-eqb t t refl, eq-eqb x x refl)
+before-self (Down t x) p = rw (le-ltb t t (omega arith), le-ltb x x (omega arith), le-ltb p p (omega arith), eq-eqb t t refl, eq-eqb x x refl)
+before-self Nowhere p = refl
+
+ungrouped-before : (s z : Standing) (p q : ℕ) → grouped s ≡ false → before s p z q ≡ false
+unfolding before grouped
+ungrouped-before (Up t x) z p q e = absurd (clash refl e)
+ungrouped-before (Down t x) z p q e = absurd (clash refl e)
+ungrouped-before Nowhere z p q e = refl
+
+module _ (family : Family) (request : Request) where
+  level-before : (i j : ℕ) → samePercent family i j ≡ true → widthBefore family request i j ≡ false
+  unfolding widthBefore inWidth
+  level-before i j e = rw (percent-same family i j e, before-self (widthStanding (request .percent) (family .face i .percent)) 0)
+
+  no-style-before : (i j : ℕ) → hasGroup family request i ≡ false → styleBefore family request i j ≡ false
+  unfolding hasGroup styleBefore
+  no-style-before i j g = ungrouped-before (inStyle family request i) (inStyle family request j) (bearer family request i) (bearer family request j) g
+
+  -- a face without a group stands before none of its percent
+  ungrouped-stands : (i j : ℕ) → samePercent family i j ≡ true → hasGroup family request i ≡ false → standsBefore family request i j ≡ false
+  unfolding standsBefore
+  ungrouped-stands i j e g =
+      rw (level-before i j e, no-style-before i j g, g) (go (widthBefore family request j i) (styleBefore family request j i))
+    where
+      go : (b c : Bool) → (false || (not b && (false || (not c && false)))) ≡ false
+      go true c = refl
+      go false true = refl
+      go false false = refl
+
+  -- "two of one percent without a group are unordered"
+  pub unordered : (i j : ℕ) → samePercent family i j ≡ true → hasGroup family request i ≡ false → hasGroup family request j ≡ false
+      → (standsBefore family request i j ≡ false) × (standsBefore family request j i ≡ false)
+  unordered i j e g f =
+      (ungrouped-stands i j e g, ungrouped-stands j i (same-percent family j i (sym (percent-same family i j e))) f)
 
 -- The sizes that the laws of ranks ask: at most 64 faces, and numbers of 32 bits.
 pub record Bounded (family : Family) : Type 0 where

@@ -1,4 +1,5 @@
-// Reads a list of jobs from standard input, each after its length, and prints for each what the program `offers` prints.
+// Reads a list of jobs from standard input, each after its length, and prints for each what the program `offers` prints,
+// with the charmap index of each offer.
 //
 // The files `stdin` and `stdout` of this crate are what `cargo run --release -- jobs --out DIR` writes in
 // `rust/reference`: the list, and what the original sources answer on it. `rust/README.md` says what both hold, in
@@ -14,7 +15,7 @@ fn print_case(list: &[u8]) -> usize
 {
     let end = 4 + tables::u32_at(list, 0) as usize;
     if end <= list.len() {
-        lines::print_job(&list[4..end]);
+        lines::print_indexed_job(&list[4..end]);
     }
     end
 }

@@ -67,32 +67,42 @@ fn print_settings(record: &[u8], count: u8) {
     }
 }
 
+// The charmap index: the offset, and whether it is a symbol or a Mac Roman record.
+fn print_index(record: &[u8]) {
+    print_number(b' ', tables::u32_at(record, 32) as u64);
+    print_number(b' ', byte_at(record, 36) as u64);
+    print_number(b' ', byte_at(record, 37) as u64);
+}
+
 // The line of an offer, from its 40 bytes.
-fn print_offer(request: u32, record: &[u8]) {
+fn print_offer(request: u32, record: &[u8], indexed: bool) {
     io::print_decimal(STDOUT_FILENO, request as u64);
     print_number(b' ', tables::u16_at(record, 0) as u64);
     print_number(b' ', tables::u16_at(record, 2) as u64);
     print_embolden(byte_at(record, 4));
     print_skew(byte_at(record, 5));
+    if indexed {
+        print_index(record);
+    }
     print_settings(record, byte_at(record, 6));
     io::write_all(STDOUT_FILENO, b"\n");
 }
 
 // The line of an offer, or nothing past the list. Answers whether there was an offer.
-fn print_numbered(job: &[u8], request: u32, n: u32) -> bool {
+fn print_numbered(job: &[u8], request: u32, n: u32, indexed: bool) -> bool {
     let mut record = [0u8; 40];
     let result = call::offer(job, request, n, &mut record);
     if result == 0 {
-        print_offer(request, &record);
+        print_offer(request, &record, indexed);
     }
     result == 0
 }
 
 // The lines of a request.
-fn print_request(job: &[u8], request: u32) {
+fn print_request(job: &[u8], request: u32, indexed: bool) {
     let mut n: u32 = 0;
     while n < PAST_MOST {
-        if !print_numbered(job, request, n) {
+        if !print_numbered(job, request, n, indexed) {
             return;
         }
         n += 1;
@@ -116,26 +126,36 @@ fn request_count(job: &[u8]) -> u32 {
     MOST_REQUESTS
 }
 
-fn print_requests(job: &[u8], count: u32) {
+fn print_requests(job: &[u8], count: u32, indexed: bool) {
     let mut request: u32 = 0;
     while request < count {
-        print_request(job, request);
+        print_request(job, request, indexed);
         request += 1;
     }
 }
 
-pub fn print_job(job: &[u8]) {
+fn print_lines(job: &[u8], indexed: bool) {
     let checked = job::check(job);
     if checked.refusal == 0 {
         let count = request_count(job);
         io::write_all(STDOUT_FILENO, b"requests");
         print_number(b' ', count as u64);
         io::write_all(STDOUT_FILENO, b"\n");
-        print_requests(job, count);
+        print_requests(job, count, indexed);
     } else {
         io::write_all(STDOUT_FILENO, b"refused");
         print_number(b' ', checked.refusal as u64);
         print_number(b' ', checked.position as u64);
         io::write_all(STDOUT_FILENO, b"\n");
     }
+}
+
+// What section 7's program prints for a job.
+pub fn print_job(job: &[u8]) {
+    print_lines(job, false);
+}
+
+// The same, with the charmap index of each offer after the skew.
+pub fn print_indexed_job(job: &[u8]) {
+    print_lines(job, true);
 }

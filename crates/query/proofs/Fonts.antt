@@ -53,7 +53,7 @@ unfolding fontFile fontAt fontBytes _>>=_ onward word field ended number
 past-font s p n e h l = simp (le-leb (p + 4) (length s) h, sym e, lt-leb (p + 4 + n) (length s) l)
 
 -- the part of the job that is handed to the font layer
-part-is : (s : List ℕ) (p n : ℕ) (f : Checked) → n ≡ u32At s p → f ≡ fromFontRef (take (p + 4 + n - (p + 4)) (drop (p + 4) s)) → f ≡ fromFontRef (fontPart s p)
+part-is : (s : List ℕ) (p n : ℕ) (f : ℕ) → n ≡ u32At s p → f ≡ fromFontRef (take (p + 4 + n - (p + 4)) (drop (p + 4) s)) .refusal → f ≡ fromFontRef (fontPart s p) .refusal
 part-is s p n f e g = rw (add-sub-cancel-left, e) at g
 
 taken-part : (s : List ℕ) (p : ℕ) → p + 4 + u32At s p ≤ length s → fromFontRef (fontPart s p) .refusal ≡ 0
@@ -61,11 +61,11 @@ taken-part : (s : List ℕ) (p : ℕ) → p + 4 + u32At s p ≤ length s → fro
 unfolding fontFile fontAt fontBytes fontTaken _>>=_ onward word field ended number
 taken-part s p l h = simp (le-leb (p + 4) (length s) (omega arith), le-leb (p + 4 + u32At s p) (length s) l, h)
 
-pub taken : (s : List ℕ) (p n : ℕ) (f : Checked) → n ≡ u32At s p → p + 4 + n ≤ length s
-    → f ≡ fromFontRef (take (p + 4 + n - (p + 4)) (drop (p + 4) s)) → f .refusal ≡ 0
+pub taken : (s : List ℕ) (p n : ℕ) (f : ℕ) → n ≡ u32At s p → p + 4 + n ≤ length s
+    → f ≡ fromFontRef (take (p + 4 + n - (p + 4)) (drop (p + 4) s)) .refusal → f ≡ 0
     → record { refusal = 0; at = p + 4 + n } ≡ ended (fontFile s p)
 taken s p n f e l g h =
-    let same : f ≡ fromFontRef (fontPart s p) = part-is s p n f e g in
+    let same : f ≡ fromFontRef (fontPart s p) .refusal = part-is s p n f e g in
     rw e (taken-part s p (rw e at l) (rw same at h))
 
 refused-part : (s : List ℕ) (p : ℕ) → p + 4 + u32At s p ≤ length s → (fromFontRef (fontPart s p) .refusal ≡ 0 → ⊥)
@@ -74,9 +74,9 @@ unfolding fontFile fontAt fontBytes fontTaken _>>=_ onward word field ended
 refused-part s p l h =
     simp (le-leb (p + 4) (length s) (omega arith), le-leb (p + 4 + u32At s p) (length s) l, ne-eqb (fromFontRef (fontPart s p) .refusal) 0 h, sym (font-number (fontPart s p) h))
 
-pub refused-font : (s : List ℕ) (p n : ℕ) (f : Checked) → n ≡ u32At s p → p + 4 + n ≤ length s
-    → f ≡ fromFontRef (take (p + 4 + n - (p + 4)) (drop (p + 4) s)) → (f .refusal ≡ 0 → ⊥)
-    → record { refusal = f .refusal; at = p } ≡ ended (fontFile s p)
+pub refused-font : (s : List ℕ) (p n : ℕ) (f : ℕ) → n ≡ u32At s p → p + 4 + n ≤ length s
+    → f ≡ fromFontRef (take (p + 4 + n - (p + 4)) (drop (p + 4) s)) .refusal → (f ≡ 0 → ⊥)
+    → record { refusal = f; at = p } ≡ ended (fontFile s p)
 refused-font s p n f e l g h =
-    let same : f ≡ fromFontRef (fontPart s p) = part-is s p n f e g in
+    let same : f ≡ fromFontRef (fontPart s p) .refusal = part-is s p n f e g in
     rw same (refused-part s p (rw e at l) (rw same at h))

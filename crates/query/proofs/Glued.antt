@@ -21,7 +21,7 @@ use Rattle.query.specs.Job.{Job, atEnd, readSections, readJob}
 use Rattle.query.specs.Offers.{Faces, Families, facesOf, groupOf, familyOffers, offerOf, numberOffers, inTurn, offers, membersAt, familiesAt, listAt, fallbacksAt, Small}
 use Rattle.query.specs.Sheet.{fontOf, heldOf, membersOf, familiesOf, offersOf}
 use Rattle.query.specs.Located.{placeOf, afterFamily, familyPlace, overridesPlace, familiesPlace, requestsPlace, familyAt, FamilyKnown, afterRequest, requestPlace, requestedAt, RequestedKnown, requestAt}
-use Rattle.query.specs.Answer.{SameFaces}
+use Rattle.query.specs.Found.{SameFaces}
 use Rattle.query.proofs.Ends.{then-got}
 use Rattle.query.proofs.Leaves.{counted-length, count-read}
 use Rattle.query.proofs.Gathered.{numbers-length, number-at}

@@ -8,6 +8,7 @@ use lib.Dec.{leb, eqb}
 use lib.Ieee.{Float, binary32, ofBits}
 use lib.Ieee.Scale.{finite}
 use lib.ListN.{length, getD, take, drop}
+use borrow.Author.Tests.{eqb-true}
 use Rattle.font.specs.declared.attributes.Angle.the-variants.{Unstated, Degrees}
 use Rattle.font.specs.declared.attributes.FontStyle.{FontStyle}
 use Rattle.font.specs.declared.overrides.StyleOverride.{StyleOverride}
@@ -22,7 +23,8 @@ use Rattle.font.specs.Font.{fromFontRef}
 use Rattle.query.specs.Reader.{Refusal, pastEnd, Reader, refused, got, done, _>>=_}
 use Rattle.query.specs.Fields.{byte, word, ratio, value, byteCounted, heldByte, faceNumber, mask, kind, spareByte, spareWord, orSpare, fontRefusal, fontBytes, fontTaken, fontAt, fontFile}
 use Rattle.query.specs.Entries.{Face, Pair, Override, readFace, styleOfKind, readAngle, readStyle, readWidth, readWeight, styleOrSpare, readGiven, readPair, readOverride}
-use Rattle.query.specs.Load.{placeOf, runOf, faceAt, faceEnd, numberAt, styleAt, givenAt, pairAt, pairEnd, overrideAt, overrideEnd}
+use Rattle.query.specs.Located.{placeOf}
+use Rattle.query.specs.Load.{runOf, faceAt, faceEnd, numberAt, styleAt, givenAt, pairAt, pairEnd, overrideAt, overrideEnd}
 use Rattle.query.proofs.Ends.{then-got}
 use Rattle.query.proofs.Leaves.{byte-read, word-read, ratio-read, value-read, held-read, face-number-read, mask-read, kind-read, spare-byte-read, spare-word-read}
 use Rattle.query.proofs.Singles.{ratio-finite}
@@ -78,6 +80,28 @@ face-laid s p f q e =
           }),
       end ∙ font .1 ∙ (λ k. h .next k + 4 + u32At s (h .next k)) ∙ (λ k. five 0 k + u32At s (p + 1)),
     )
+
+-- a font that is taken is not refused
+taken-is : (place : ℕ) (font s : List ℕ) (p : ℕ) (x : List ℕ) (q : ℕ) → fontTaken place font s p ≡ got x q → fromFontRef x .refusal ≡ 0
+unfolding fontTaken
+taken-is place font s p x q = go (eqb (fromFontRef font .refusal) 0) refl (fontRefusal (fromFontRef font .refusal))
+  where
+    go : (b : Bool) → eqb (fromFontRef font .refusal) 0 ≡ b → (w : Refusal) → cond b (got font p) (refused w place) ≡ got x q → fromFontRef x .refusal ≡ 0
+    go true t w e =
+        let same : x ≡ font = cc in
+        rw same (eqb-true (fromFontRef font .refusal) 0 t)
+    go false t w e = absurd (let z : _≡_ {A = ℕ} 0 1 = cc in omega arith)
+
+pub face-taken : (s : List ℕ) (p : ℕ) (f : Face) (q : ℕ) → readFace s p ≡ got f q → fromFontRef (f .font) .refusal ≡ 0
+unfolding readFace done fontFile fontAt
+face-taken s p f q e =
+    let a = then-got heldByte _ s p f q e in
+    let b = then-got fontFile _ s (a .1) f q (a .3) in
+    let c = then-got word _ s (a .1) (b .0) (b .1) (b .2) in
+    let d = then-got (fontBytes (a .1) (c .0)) _ s (c .1) (b .0) (b .1) (c .3) in
+    let same : got (record { held = eqb (a .0) 1; font = b .0 }) (b .1) ≡ got f q = b .3 in
+    let is : f .font ≡ b .0 = cc in
+    rw is (taken-is (a .1) (d .0) s (d .1) (b .0) (b .1) (d .3))
 
 -- ---- numbers and styles
 

@@ -6,6 +6,7 @@ pub mod Leaves
 pub mod Fonts
 pub mod Checks
 pub mod Positions
+pub mod Walked
 -- A byte string is accepted exactly when it is the layout of a job within the limits.
 pub mod Stands
 pub mod Exact
@@ -15,9 +16,6 @@ pub mod AcceptedJobs
 -- First met, reading left to right.
 pub mod FirstMet
 pub mod Examples
--- Where entries and their values stand, for the layer above.
-pub mod Numbered
-pub mod Values
 -- Laws that several proofs cite.
 pub mod Runs
 -- The offers.
@@ -29,16 +27,15 @@ pub mod Turns
 pub mod Written
 pub mod Signs
 pub mod Run
-pub mod Agree
 pub mod Listed
 pub mod Tried
 -- From a job's bytes to its families and requests.
 pub mod Entered
 pub mod Glued
 pub mod Called
-pub mod Answers
 -- From a job's bytes to the numbers of its faces.
 pub mod Ordered
+pub mod Stated
 pub mod Loads
 pub mod Replacing
 pub mod Laid

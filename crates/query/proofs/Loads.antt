@@ -12,13 +12,19 @@ use lib.ListN.{getD, set, length-set}
 use borrow.Author.Tests.{ne-eqb}
 use Rattle.font.specs.declared.attributes.Angle.the-variants.{Unstated, Degrees}
 use Rattle.font.specs.declared.attributes.FontStyle.the-variants.{Normal, Italic, Oblique}
+use Rattle.font.specs.declared.attributes.Attributes.{Attributes}
 use Rattle.font.specs.declared.font.FontInfo.{FontInfo}
 use Rattle.font.specs.Single.{single, orderKey, wholePercent}
 use Rattle.font.specs.Tables.{u32At}
+use Rattle.font.specs.Reading.{readAttributes}
+use Rattle.font.specs.Font.{fromFontRef, statesAxis}
+use Rattle.font.proofs.FaceOf.{accepted-face}
 use Rattle.matching.specs.Matching.{styleNumber, hasAxis, slnt}
 use Rattle.query.specs.Entries.{styleOfKind}
-use Rattle.query.specs.Load.{placeOf, faceAt, faceEnd, facePlace, fontAt, numberAt, styleAt, Whole, Loaded}
+use Rattle.query.specs.Located.{placeOf}
+use Rattle.query.specs.Load.{faceAt, faceEnd, facePlace, fontAt, numberAt, styleAt, Whole, Loaded}
 use Rattle.query.proofs.Ordered.{stored}
+use Rattle.query.proofs.Stated.{stated}
 
 -- ---- a number and a style of a job
 
@@ -53,9 +59,9 @@ module _ (s : List ℕ) (p k : ℕ) where
 
 -- ---- faces
 
-pub loaded-none : (s : List ℕ) (at : ℕ) (percents styles weights ratios : List ℕ) (slants held : List Bool) (starts : List ℕ)
-    → Whole percents styles weights ratios slants held starts → Loaded s at 0 percents styles weights ratios slants held starts
-loaded-none s at percents styles weights ratios slants held starts w =
+pub loaded-none : (s : List ℕ) (at : ℕ) (percents styles weights ratios : List ℕ) (slants held : List Bool)
+    → Whole percents styles weights ratios slants held → Loaded s at 0 percents styles weights ratios slants held
+loaded-none s at percents styles weights ratios slants held w =
     record {
       whole = w;
       numbers =
@@ -67,7 +73,6 @@ loaded-none s at percents styles weights ratios slants held starts w =
           };
       slant = λ i l. absurd (omega arith);
       isHeld = λ i l. absurd (omega arith);
-      start = λ i l. absurd (omega arith);
     }
 
 pub face-next : (s : List ℕ) (at i place n : ℕ) → place ≡ facePlace s at i → n ≡ u32At s (place + 1) → place + (5 + n) ≡ facePlace s at (i + 1)
@@ -76,18 +81,29 @@ face-next s at i place n h e =
     let sum : place + (5 + n) ≡ place + 5 + n = omega arith in
     rw add-one (sum ∙ ap (λ (m : ℕ). place + 5 + m) e ∙ ap (λ (q : ℕ). q + 5 + u32At s (q + 1)) h)
 
-module _ (s : List ℕ) (at i place : ℕ) (font : FontInfo) (p t w r : ℕ) (l h : Bool) (here : place ≡ facePlace s at i) (read : font ≡ fontAt s place) where
-  same-font : font ≡ fontAt s (facePlace s at i)
-  same-font = read ∙ ap (fontAt s) here
+-- of a face whose font is not refused, what is read of the file
+module _ (s : List ℕ) (place : ℕ) (taken : fromFontRef (faceAt s place .font) .refusal ≡ 0) (file : List ℕ) (is-file : file ≡ faceAt s place .font) where
+  pub attributes-read : (a : Attributes) → a ≡ readAttributes file → a ≡ fontAt s place .attributes
+  unfolding fontAt
+  attributes-read a e =
+      e ∙ ap readAttributes is-file ∙ ap (λ (f : FontInfo). f .attributes) (sym (accepted-face (faceAt s place .font) taken .is))
 
-  pub loaded-more : {percents styles weights ratios : List ℕ} {slants held : List Bool} {starts : List ℕ}
-      → i < 256 → Loaded s at i percents styles weights ratios slants held starts
-      → p ≡ wholePercent (font .attributes .width .ratio) → t ≡ styleNumber (font .attributes .style)
-      → w ≡ orderKey (font .attributes .weight .value) → r ≡ orderKey (font .attributes .width .ratio)
-      → l ≡ hasAxis font slnt → h ≡ eqb (getD s place 0) 1
-      → Loaded s at (i + 1) (set percents i p) (set styles i t) (set weights i w) (set ratios i r) (set slants i l) (set held i h) (set starts i place)
+  pub slant-read : (l : Bool) → l ≡ statesAxis file slnt → l ≡ hasAxis (fontAt s place) slnt
+  unfolding fontAt
+  slant-read l e = e ∙ ap (λ (f : List ℕ). statesAxis f slnt) is-file ∙ stated (faceAt s place .font) slnt taken
+
+module _ (s : List ℕ) (at i place : ℕ) (a : Attributes) (p t w r : ℕ) (l h : Bool) (here : place ≡ facePlace s at i) (read : a ≡ fontAt s place .attributes) where
+  same-attributes : a ≡ fontAt s (facePlace s at i) .attributes
+  same-attributes = read ∙ ap (λ (q : ℕ). fontAt s q .attributes) here
+
+  pub loaded-more : {percents styles weights ratios : List ℕ} {slants held : List Bool}
+      → i < 256 → Loaded s at i percents styles weights ratios slants held
+      → p ≡ wholePercent (a .width .ratio) → t ≡ styleNumber (a .style)
+      → w ≡ orderKey (a .weight .value) → r ≡ orderKey (a .width .ratio)
+      → l ≡ hasAxis (fontAt s place) slnt → h ≡ eqb (getD s place 0) 1
+      → Loaded s at (i + 1) (set percents i p) (set styles i t) (set weights i w) (set ratios i r) (set slants i l) (set held i h)
   unfolding faceAt
-  loaded-more {percents} {styles} {weights} {ratios} {slants} {held} {starts} b so ep et ew er el eh =
+  loaded-more {percents} {styles} {weights} {ratios} {slants} {held} b so ep et ew er el eh =
       record {
         whole =
             record {
@@ -100,28 +116,26 @@ module _ (s : List ℕ) (at i place : ℕ) (font : FontInfo) (p t w r : ℕ) (l 
                   };
               slant = length-set slants i l ∙ so .whole .slant;
               isHeld = length-set held i h ∙ so .whole .isHeld;
-              start = length-set starts i place ∙ so .whole .start;
             };
         numbers =
             record {
               percent =
                   stored 0 (λ j. wholePercent (fontAt s (facePlace s at j) .attributes .width .ratio)) percents i p (omega (arith, so .whole .numbers .percent)) (so .numbers .percent)
-                  (ep ∙ ap (λ (f : FontInfo). wholePercent (f .attributes .width .ratio)) same-font);
+                  (ep ∙ ap (λ (x : Attributes). wholePercent (x .width .ratio)) same-attributes);
               style =
                   stored 0 (λ j. styleNumber (fontAt s (facePlace s at j) .attributes .style)) styles i t (omega (arith, so .whole .numbers .style)) (so .numbers .style)
-                  (et ∙ ap (λ (f : FontInfo). styleNumber (f .attributes .style)) same-font);
+                  (et ∙ ap (λ (x : Attributes). styleNumber (x .style)) same-attributes);
               weight =
                   stored 0 (λ j. orderKey (fontAt s (facePlace s at j) .attributes .weight .value)) weights i w (omega (arith, so .whole .numbers .weight)) (so .numbers .weight)
-                  (ew ∙ ap (λ (f : FontInfo). orderKey (f .attributes .weight .value)) same-font);
+                  (ew ∙ ap (λ (x : Attributes). orderKey (x .weight .value)) same-attributes);
               ratio =
                   stored 0 (λ j. orderKey (fontAt s (facePlace s at j) .attributes .width .ratio)) ratios i r (omega (arith, so .whole .numbers .ratio)) (so .numbers .ratio)
-                  (er ∙ ap (λ (f : FontInfo). orderKey (f .attributes .width .ratio)) same-font);
+                  (er ∙ ap (λ (x : Attributes). orderKey (x .width .ratio)) same-attributes);
             };
         slant =
             stored false (λ j. hasAxis (fontAt s (facePlace s at j)) slnt) slants i l (omega (arith, so .whole .slant)) (so .slant)
-            (el ∙ ap (λ (f : FontInfo). hasAxis f slnt) same-font);
+            (el ∙ ap (λ (q : ℕ). hasAxis (fontAt s q) slnt) here);
         isHeld =
             stored false (λ j. faceAt s (facePlace s at j) .held) held i h (omega (arith, so .whole .isHeld)) (so .isHeld)
             (eh ∙ ap (λ (q : ℕ). eqb (getD s q 0) 1) here);
-        start = stored 0 (facePlace s at) starts i place (omega (arith, so .whole .start)) (so .start) here;
       }

@@ -10,7 +10,8 @@ use lib.Seq.{take-all, take-nil, drop-length, getD-set-same, getD-set-other}
 use borrow.Author.Tests.{leb-true, leb-false}
 use Rattle.matching.proofs.Ranks.{Tri, low, same, high, tri}
 use Rattle.query.specs.Reader.{Reader, got, done, many}
-use Rattle.query.specs.Load.{placeOf, runOf}
+use Rattle.query.specs.Located.{placeOf}
+use Rattle.query.specs.Load.{runOf}
 use Rattle.query.proofs.Ends.{then-got}
 
 -- the entries after the first are those from the second position on
@@ -47,6 +48,24 @@ module _ {A : Type 0} (entry : ℕ → A) (next : ℕ → ℕ) where
         list ∙ (λ k. one .0 k ∷ (rest .0 ∙ ap (λ (t : ℕ). runOf entry next t n) (one .1)) k),
         end ∙ rest .1 ∙ ap (λ (t : ℕ). placeOf next t n) (one .1) ∙ place-first next p n,
       )
+
+-- what holds of each entry that is read holds of all
+cons-each : {A : Type 0} (P : A → Type 0) (d x : A) (xs : List A) → P x → ((i : ℕ) → i < length xs → P (getD xs i d)) → (i : ℕ) → i < length (x ∷ xs) → P (getD (x ∷ xs) i d)
+cons-each P d x xs h t zero l = h
+cons-each P d x xs h t (suc i) l = t i (omega arith)
+
+pub many-each : {A : Type 0} (P : A → Type 0) (d : A) (r : Reader A) (s : List ℕ) → ((p : ℕ) (a : A) (q : ℕ) → r s p ≡ got a q → P a)
+    → (n p : ℕ) (xs : List A) (q : ℕ) → many n r s p ≡ got xs q → (i : ℕ) → i < length xs → P (getD xs i d)
+unfolding many done
+many-each P d r s each zero p xs q e i l =
+    let none : xs ≡ [] = cc in
+    absurd (omega (arith, ap length none))
+many-each P d r s each (suc n) p xs q e i l =
+    let a = then-got r _ s p xs q e in
+    let b = then-got (many n r) _ s (a .1) xs q (a .3) in
+    let same : got (a .0 ∷ b .0) (b .1) ≡ got xs q = b .3 in
+    let list : xs ≡ a .0 ∷ b .0 = cc in
+    rw list (cons-each P d (a .0) (b .0) (each p (a .0) (a .1) (a .2)) (many-each P d r s each n (a .1) (b .0) (b .1) (b .2)) i (rw list at l))
 
 -- ---- lists that a loop fills from the front
 

@@ -2,18 +2,69 @@
 use Prim.Native.Nat.{ℕ}
 use mathlib.Core.Bool.{Bool, true, false, cond}
 use mathlib.Core.List.{List, []}
+use mathlib.Core.Path.{_≡_}
 use lib.Dec.{ltb, eqb}
+use lib.IntN.{pos}
 use lib.ListN.{length, getD}
+use Rattle.font.specs.declared.charmap.CharmapIndex.{CharmapIndex}
 use Rattle.font.specs.Attributes.{defaultAttributes}
+use Rattle.matching.specs.declared.synthesis.Synthesis.{Synthesis}
+use Rattle.matching.specs.Synthesis.{unvaried}
 use Rattle.query.specs.declared.offers.Offer.{Offer}
 use Rattle.query.specs.declared.offers.Offered.{Offered}
 use Rattle.query.specs.declared.offers.Offered.the-variants.{At, Past}
+use Rattle.query.specs.declared.call.Answer.{Answer}
 use Rattle.query.specs.Reader.{number, Got, refused, got}
 use Rattle.query.specs.Entries.{Request}
 use Rattle.query.specs.Job.{Job, readJob}
-use Rattle.query.specs.Offers.{offerAt}
+use Rattle.query.specs.Offers.{offerOf, offerAt}
 use Rattle.query.specs.Sheet.{offersOf, faceOfOffer, synthesisOfOffer}
 use Rattle.query.specs.Record.{recordBytes}
+
+-- ---- the answer to a request and an offer number, before a byte is written
+
+-- an answer without an offer: 1, or a refusal; zeros stand beside it
+unfoldable pub withoutOffer : ℕ → Answer
+withoutOffer n =
+    record {
+      result = n;
+      offer = offerOf 0 0;
+      synthesis = unvaried 0 false (pos 0);
+      «charmap_index» = record { «subtable_offset» = 0; «is_symbol» = false; «is_mac_roman» = false };
+    }
+
+-- 0 and the offer; 29 is "a fourth setting"
+unfoldable pub withSynthesis : Offer → Synthesis → CharmapIndex → Answer
+withSynthesis o made index =
+    cond (eqb (made .refusal) 29)
+    (withoutOffer 29)
+    (record { result = 0; offer = o; synthesis = made; «charmap_index» = index })
+
+-- "answers the offer of the number asked for, with its synthesis", or 1, "past the list"
+unfoldable pub answered : Job → Request → Offered → Answer
+answered job r (At o) = withSynthesis o (synthesisOfOffer job r o) (faceOfOffer job o .«charmap_index»)
+answered job r Past = withoutOffer 1
+
+-- the request of a number; what stands past the list is read by nothing
+unfoldable pub requestOfJob : Job → ℕ → Request
+requestOfJob job k = getD (job .requests) k (record { most = 0; attributes = defaultAttributes; families = []; fallbacks = [] })
+
+-- 28 is a request "not in the job"
+unfoldable pub requestAnswer : Job → ℕ → ℕ → Answer
+requestAnswer job k n =
+    cond (ltb k (length (job .requests)))
+    (answered job (requestOfJob job k) (offerAt (offersOf job (requestOfJob job k)) n))
+    (withoutOffer 28)
+
+unfoldable pub jobAnswer : Got Job → ℕ → ℕ → Answer
+jobAnswer (refused why p) k n = withoutOffer (number why)
+jobAnswer (got job p) k n = requestAnswer job k n
+
+-- "First met, reading left to right: .. then the whole job, then Request."
+unfoldable pub answerCall : List ℕ → ℕ → ℕ → Answer
+answerCall job k n = jobAnswer (readJob job) k n
+
+-- ---- the call
 
 -- what the call returns, and the output after it
 pub record Called : Type 0 where
@@ -24,32 +75,18 @@ pub record Called : Type 0 where
 unfoldable pub unwritten : ℕ → List ℕ → Called
 unwritten n out = record { result = n; output = out }
 
--- the request of a number; what stands past the list is read by nothing
-unfoldable pub requestOfJob : Job → ℕ → Request
-requestOfJob job k = getD (job .requests) k (record { most = 0; attributes = defaultAttributes; families = []; fallbacks = [] })
+-- "It returns 0 and writes" the 40 bytes
+unfoldable pub written : Answer → List ℕ → Called
+written a out =
+    cond (eqb (a .result) 0)
+    (record { result = 0; output = recordBytes (a .offer) (a .synthesis) (a .«charmap_index») })
+    (unwritten (a .result) out)
 
--- "It returns 0 and writes" the 40 bytes; 29 is "a fourth setting"
-unfoldable pub offerWritten : Job → Request → Offer → List ℕ → Called
-offerWritten job r o out =
-    cond (eqb (synthesisOfOffer job r o .refusal) 29)
-    (unwritten 29 out)
-    (record { result = 0; output = recordBytes o (synthesisOfOffer job r o) (faceOfOffer job o .«charmap_index») })
-
-unfoldable pub answered : Job → Request → List ℕ → Offered → Called
-answered job r out (At o) = offerWritten job r o out
-answered job r out Past = unwritten 1 out
-
--- 28 is a request "not in the job"
-unfoldable pub requestCall : Job → ℕ → ℕ → List ℕ → Called
-requestCall job k n out =
-    cond (ltb k (length (job .requests)))
-    (answered job (requestOfJob job k) out (offerAt (offersOf job (requestOfJob job k)) n))
-    (unwritten 28 out)
-
-unfoldable pub jobCall : Got Job → ℕ → ℕ → List ℕ → Called
-jobCall (refused why p) k n out = unwritten (number why) out
-jobCall (got job p) k n out = requestCall job k n out
-
--- 16 is "output not 40 bytes". "First met, reading left to right: Call rows, then the whole job, then Request."
+-- 16 is "output not 40 bytes", met before the job
 unfoldable pub offerCall : List ℕ → ℕ → ℕ → List ℕ → Called
-offerCall job k n out = cond (eqb (length out) 40) (jobCall (readJob job) k n out) (unwritten 16 out)
+offerCall job k n out = cond (eqb (length out) 40) (written (answerCall job k n) out) (unwritten 16 out)
+
+-- the result and the output are those of the definition
+pub record Calls (called : Called) (result : ℕ) (output : List ℕ) : Type 0 where
+  pub result-is : result ≡ called .result
+  pub output-is : output ≡ called .output

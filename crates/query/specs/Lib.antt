@@ -11,5 +11,4 @@ pub mod Sheet
 pub mod Located
 pub mod Load
 pub mod Call
-pub mod Answer
 pub mod Found

@@ -23,15 +23,10 @@ use Rattle.font.specs.Overrides.{setDefaults}
 use Rattle.matching.specs.Matching.{styleNumber, hasAxis, slnt}
 use Rattle.query.specs.Entries.{Face, Pair, Override, styleOfKind}
 use Rattle.query.specs.Job.{Job}
-use Rattle.query.specs.Offers.{Faces, facesOf}
-use Rattle.query.specs.Sheet.{afterOverrides, fontOf, heldOf}
+use Rattle.query.specs.Sheet.{afterOverrides}
+use Rattle.query.specs.Located.{placeOf, overridesPlace}
 
 -- ---- entries one after another, where `next` gives the position after an entry
-
--- the position of the i-th
-unfoldable pub placeOf : (ℕ → ℕ) → ℕ → ℕ → ℕ
-placeOf next at zero = at
-placeOf next at (suc i) = next (placeOf next at i)
 
 -- the first n
 unfoldable pub runOf : {A : Type 0} → (ℕ → A) → (ℕ → ℕ) → ℕ → ℕ → List A
@@ -91,10 +86,6 @@ overridePlace s = placeOf (overrideEnd s)
 unfoldable pub overridesAt : List ℕ → ℕ → ℕ → List Override
 overridesAt s = runOf (overrideAt s) (overrideEnd s)
 
--- the position of the second section's count: the first section has its count at 0, and its faces from 2 on
-unfoldable pub overridesStart : List ℕ → ℕ
-overridesStart s = facePlace s 2 (u16At s 0)
-
 -- a face with other axes
 unfoldable pub withAxes : FontInfo → List AxisInfo → FontInfo
 withAxes f axes =
@@ -122,19 +113,21 @@ pub record Long (percents styles weights ratios : List ℕ) : Type 0 where
   pub weight : length weights ≡ 256
   pub ratio : length ratios ≡ 256
 
-pub record Whole (percents styles weights ratios : List ℕ) (slants held : List Bool) (starts : List ℕ) : Type 0 where
+pub record Whole (percents styles weights ratios : List ℕ) (slants held : List Bool) : Type 0 where
   pub numbers : Long percents styles weights ratios
   pub slant : length slants ≡ 256
   pub isHeld : length held ≡ 256
-  pub start : length starts ≡ 256
+
+-- none of the n font files whose first lies in the entry at a position is refused
+pub record Fonts (s : List ℕ) (at n : ℕ) : Type 0 where
+  pub taken : (i : ℕ) → i < n → fromFontRef (faceAt s (facePlace s at i) .font) .refusal ≡ 0
 
 -- what the lists say of the n faces whose first lies at a position
-pub record Loaded (s : List ℕ) (at n : ℕ) (percents styles weights ratios : List ℕ) (slants held : List Bool) (starts : List ℕ) : Type 0 where
-  pub whole : Whole percents styles weights ratios slants held starts
+pub record Loaded (s : List ℕ) (at n : ℕ) (percents styles weights ratios : List ℕ) (slants held : List Bool) : Type 0 where
+  pub whole : Whole percents styles weights ratios slants held
   pub numbers : Numbers (λ i. fontAt s (facePlace s at i)) n percents styles weights ratios
   pub slant : (i : ℕ) → i < n → getD slants i false ≡ hasAxis (fontAt s (facePlace s at i)) slnt
   pub isHeld : (i : ℕ) → i < n → getD held i false ≡ faceAt s (facePlace s at i) .held
-  pub start : (i : ℕ) → i < n → getD starts i 0 ≡ facePlace s at i
 
 -- what overrides make of lists of at most 256 faces, whatever the faces are
 pub record Replaced (os : List Override) (percents styles weights ratios percents' styles' weights' ratios' : List ℕ) : Type 0 where
@@ -147,12 +140,7 @@ pub record LaidOut (s : List ℕ) (job : Job) : Type 0 where
   pub short : length s ≤ 16777216
   pub few : u16At s 0 ≤ 256
   pub faces : job .faces ≡ runOf (faceAt s) (faceEnd s) 2 (u16At s 0)
-  pub inside : overridesStart s + 2 ≤ length s
-  pub fewOverrides : u16At s (overridesStart s) ≤ 256
-  pub overrides : job .overrides ≡ overridesAt s (overridesStart s + 2) (u16At s (overridesStart s))
-
--- what is known of the faces of a job agrees with the job, for every face of it
-pub record Agrees (faces : Faces) (job : Job) : Type 0 where
-  pub face : (i : ℕ) → i < length (job .faces) → faces .face i ≡ facesOf (fontOf job) (heldOf job) .face i
-  pub ratio : (i : ℕ) → i < length (job .faces) → faces .ratio i ≡ facesOf (fontOf job) (heldOf job) .ratio i
-  pub isHeld : (i : ℕ) → i < length (job .faces) → faces .held i ≡ facesOf (fontOf job) (heldOf job) .held i
+  pub inside : overridesPlace s + 2 ≤ length s
+  pub fewOverrides : u16At s (overridesPlace s) ≤ 256
+  pub fonts : Fonts s 2 (u16At s 0)
+  pub overrides : job .overrides ≡ overridesAt s (overridesPlace s + 2) (u16At s (overridesPlace s))

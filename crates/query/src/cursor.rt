@@ -1,7 +1,8 @@
 // The offer cursor, which each step consumes and returns.
 ghost use mathlib.Core.Path.{_≡_};
-ghost use Rattle.query.specs.Cursor.{fresh, after, Steps};
+ghost use Rattle.query.specs.Cursor.{fresh, after, stepped};
 use crate::call;
+use crate::call::Answer;
 
 // A request and the number of its next offer. Any two numbers make a cursor.
 pub struct Cursor {
@@ -9,10 +10,10 @@ pub struct Cursor {
     pub next: u32,
 }
 
-// What a step hands back: the cursor, and the result of the offer call.
+// What a step hands back: the cursor, and the next offer, or why there is none.
 pub struct Step {
     pub cursor: Cursor,
-    pub result: u32,
+    pub answer: Answer,
 }
 
 impl Cursor {
@@ -23,7 +24,7 @@ impl Cursor {
     }
 
     // One further where there was an offer.
-    pub fn after(mut self, found: bool) -> Self
+    fn after(mut self, found: bool) -> Self
         ensures { λ r. ⌜ r ≡ after self found ⌝ }
     {
         let next = self.next;
@@ -35,15 +36,15 @@ impl Cursor {
         self
     }
 
-    // The offer call with the cursor's numbers.
-    pub fn step(mut self, job: &[u8], out: &mut [u8]) -> Step
-        ensures { λ r. ⌜ Steps (now (job .entry)) self (now (out .entry)) r (now (out .exit)) ⌝ }
+    // The answer to the cursor's numbers.
+    pub fn step(mut self, job: &[u8]) -> Step
+        ensures { λ r. ⌜ r ≡ stepped (now (job .entry)) self ⌝ }
     {
-        let result = call::offer(job, self.request, self.next, out);
-        self = self.after(result == 0);
+        let answer = call::offer_at(job, self.request, self.next);
+        self = self.after(answer.result == 0);
         Step {
             cursor: self,
-            result,
+            answer,
         }
     }
 }

@@ -9,7 +9,7 @@ use crate::fields::At;
 use font::tables;
 
 // Held byte, length and font file.
-pub fn face(job: &[u8], at: usize) -> At
+pub(crate) fn face(job: &[u8], at: usize) -> At
     ensures { λ r. ⌜ r ≡ ended (readFace (now (job .entry)) at) ⌝ }
 {
     let held = fields::held(job, at);
@@ -40,7 +40,7 @@ fn value_or_spare(job: &[u8], at: usize, given: bool) -> At
 }
 
 // Kind and angle.
-pub fn style(job: &[u8], at: usize) -> At
+pub(crate) fn style(job: &[u8], at: usize) -> At
     ensures { λ r. ⌜ r ≡ ended (readStyle (now (job .entry)) at) ⌝ }
 {
     let kind = fields::kind(job, at);
@@ -64,7 +64,7 @@ fn style_or_spare(job: &[u8], at: usize, given: bool) -> At
 }
 
 // Ratio, style and weight of an override, by its mask.
-pub fn given(job: &[u8], at: usize, mask: u8) -> At
+pub(crate) fn given(job: &[u8], at: usize, mask: u8) -> At
     ensures { λ r. ⌜ r ≡ ended (readGiven mask (now (job .entry)) at) ⌝ }
 {
     let width = ratio_or_spare(job, at, mask % 2 == 1);
@@ -109,7 +109,7 @@ fn pair_run(job: &[u8], at: usize, count: usize) -> At
 }
 
 // Axis pair count and pairs.
-pub fn pairs(job: &[u8], at: usize) -> At
+pub(crate) fn pairs(job: &[u8], at: usize) -> At
     ensures { λ r. ⌜ r ≡ ended (byteCounted readPair (now (job .entry)) at) ⌝ }
 {
     let count = fields::byte(job, at);
@@ -120,7 +120,7 @@ pub fn pairs(job: &[u8], at: usize) -> At
 }
 
 // An override, in a job of `faces` faces.
-pub fn override_entry(job: &[u8], at: usize, faces: u16) -> At
+pub(crate) fn override_entry(job: &[u8], at: usize, faces: u16) -> At
     ensures { λ r. ⌜ r ≡ ended (readOverride faces (now (job .entry)) at) ⌝ }
 {
     let face = fields::face_number(job, at, faces);
@@ -138,6 +138,7 @@ pub fn override_entry(job: &[u8], at: usize, faces: u16) -> At
     pairs(job, given.at)
 }
 
+// The place goes on by itself, and does not wait for the number that was read.
 fn face_number_run(job: &[u8], at: usize, count: usize, faces: u16) -> At
     ensures { λ r. ⌜ r ≡ ended (many count (faceNumber faces) (now (job .entry)) at) ⌝ }
 {
@@ -148,7 +149,7 @@ fn face_number_run(job: &[u8], at: usize, count: usize, faces: u16) -> At
         if next.refusal != 0 {
             return next;
         }
-        place = next.at;
+        place += 2;
         left -= 1;
     }
     At {
@@ -158,7 +159,7 @@ fn face_number_run(job: &[u8], at: usize, count: usize, faces: u16) -> At
 }
 
 // A family, in a job of `faces` faces.
-pub fn family(job: &[u8], at: usize, faces: u16) -> At
+pub(crate) fn family(job: &[u8], at: usize, faces: u16) -> At
     ensures { λ r. ⌜ r ≡ ended (readFamily faces (now (job .entry)) at) ⌝ }
 {
     let count = fields::count(job, at, 64);
@@ -188,7 +189,7 @@ fn number_run(job: &[u8], at: usize, count: usize) -> At
 }
 
 // A byte count and 16-bit numbers.
-pub fn numbers(job: &[u8], at: usize) -> At
+pub(crate) fn numbers(job: &[u8], at: usize) -> At
     ensures { λ r. ⌜ r ≡ ended (byteCounted half (now (job .entry)) at) ⌝ }
 {
     let count = fields::byte(job, at);
@@ -199,7 +200,7 @@ pub fn numbers(job: &[u8], at: usize) -> At
 }
 
 // Ratio, style and weight of a request.
-pub fn requested(job: &[u8], at: usize) -> At
+pub(crate) fn requested(job: &[u8], at: usize) -> At
     ensures { λ r. ⌜ r ≡ ended (readRequested (now (job .entry)) at) ⌝ }
 {
     let width = fields::ratio(job, at);
@@ -213,7 +214,7 @@ pub fn requested(job: &[u8], at: usize) -> At
     fields::value(job, style.at)
 }
 
-pub fn request(job: &[u8], at: usize) -> At
+pub(crate) fn request(job: &[u8], at: usize) -> At
     ensures { λ r. ⌜ r ≡ ended (readRequest (now (job .entry)) at) ⌝ }
 {
     let most = fields::half(job, at);

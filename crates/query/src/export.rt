@@ -2,8 +2,7 @@
 ghost use mathlib.Core.Path.{_≡_};
 ghost use Prim.Native.Nat.{_+_, _*_};
 ghost use Rattle.query.specs.Job.{checkJob};
-ghost use Rattle.query.specs.Found.{Answers};
-ghost use Rattle.query.specs.Call.{offerCall};
+ghost use Rattle.query.specs.Call.{offerCall, Calls};
 use crate::call;
 use crate::job;
 
@@ -21,7 +20,7 @@ pub extern "C" fn stemhook_check(job: &[u8]) -> u64
 // In C: uint32_t stemhook_offer(const uint8_t *job, size_t length, uint32_t request, uint32_t offer, uint8_t *out, size_t out_length).
 #[no_mangle]
 pub extern "C" fn stemhook_offer(job: &[u8], request: u32, offer: u32, out: &mut [u8]) -> u32
-    ensures { λ r. ⌜ Answers (offerCall (now (job .entry)) request offer (now (out .entry))) r (now (out .exit)) ⌝ }
+    ensures { λ r. ⌜ Calls (offerCall (now (job .entry)) request offer (now (out .entry))) r (now (out .exit)) ⌝ }
 {
     call::offer(job, request, offer, out)
 }

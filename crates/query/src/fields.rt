@@ -8,7 +8,7 @@ ghost use lib.Ieee.Scale.{finite};
 ghost use Rattle.font.specs.Single.{acceptedRatio};
 ghost use Rattle.query.specs.Reader.{ended};
 ghost use Rattle.query.specs.Fields.{fieldEnd, byte, half, word, ratio, value, count, heldByte, faceNumber, mask, kind, spareByte, spareWord, fontFile};
-use font::font::FontInfo;
+use font::font::font_refusal;
 use font::single;
 use font::tables;
 
@@ -19,7 +19,7 @@ pub struct At {
 }
 
 // The byte at a position, or 0 past the end.
-pub fn byte_at(job: &[u8], at: usize) -> u8
+pub(crate) fn byte_at(job: &[u8], at: usize) -> u8
     ensures { λ r. ⌜ r ≡ getD (now (job .entry)) at 0 ⌝ }
 {
     if at < job.len() { job[at] } else { 0 }
@@ -54,26 +54,26 @@ fn tested(job: &[u8], at: usize, size: usize, ok: bool, refusal: u8) -> At
     }
 }
 
-pub fn byte(job: &[u8], at: usize) -> At
+pub(crate) fn byte(job: &[u8], at: usize) -> At
     ensures { λ r. ⌜ r ≡ ended (byte (now (job .entry)) at) ⌝ }
 {
     tested(job, at, 1, true, 0)
 }
 
-pub fn half(job: &[u8], at: usize) -> At
+pub(crate) fn half(job: &[u8], at: usize) -> At
     ensures { λ r. ⌜ r ≡ ended (half (now (job .entry)) at) ⌝ }
 {
     tested(job, at, 2, true, 0)
 }
 
-pub fn word(job: &[u8], at: usize) -> At
+pub(crate) fn word(job: &[u8], at: usize) -> At
     ensures { λ r. ⌜ r ≡ ended (word (now (job .entry)) at) ⌝ }
 {
     tested(job, at, 4, true, 0)
 }
 
 // Whether the bits are those of a number: no infinity and no NaN.
-pub fn finite_bits(bits: u32) -> bool
+pub(crate) fn finite_bits(bits: u32) -> bool
     ensures { λ r. ⌜ r ≡ finite (ofBits binary32 bits) ⌝ }
 {
     bits % 0x8000_0000 < 0x7F80_0000
@@ -90,64 +90,64 @@ fn ratio_bits(bits: u32) -> bool
     }
 }
 
-pub fn ratio(job: &[u8], at: usize) -> At
+pub(crate) fn ratio(job: &[u8], at: usize) -> At
     ensures { λ r. ⌜ r ≡ ended (ratio (now (job .entry)) at) ⌝ }
 {
     tested(job, at, 4, ratio_bits(tables::u32_at(job, at)), 26)
 }
 
-pub fn value(job: &[u8], at: usize) -> At
+pub(crate) fn value(job: &[u8], at: usize) -> At
     ensures { λ r. ⌜ r ≡ ended (value (now (job .entry)) at) ⌝ }
 {
     tested(job, at, 4, finite_bits(tables::u32_at(job, at)), 26)
 }
 
-pub fn count(job: &[u8], at: usize, limit: u16) -> At
+pub(crate) fn count(job: &[u8], at: usize, limit: u16) -> At
     ensures { λ r. ⌜ r ≡ ended (count limit (now (job .entry)) at) ⌝ }
 {
     tested(job, at, 2, tables::u16_at(job, at) <= limit, 19)
 }
 
-pub fn held(job: &[u8], at: usize) -> At
+pub(crate) fn held(job: &[u8], at: usize) -> At
     ensures { λ r. ⌜ r ≡ ended (heldByte (now (job .entry)) at) ⌝ }
 {
     tested(job, at, 1, byte_at(job, at) <= 1, 20)
 }
 
 // The number of a face, of which the job has `faces`.
-pub fn face_number(job: &[u8], at: usize, faces: u16) -> At
+pub(crate) fn face_number(job: &[u8], at: usize, faces: u16) -> At
     ensures { λ r. ⌜ r ≡ ended (faceNumber faces (now (job .entry)) at) ⌝ }
 {
     tested(job, at, 2, tables::u16_at(job, at) < faces, 24)
 }
 
-pub fn mask(job: &[u8], at: usize) -> At
+pub(crate) fn mask(job: &[u8], at: usize) -> At
     ensures { λ r. ⌜ r ≡ ended (mask (now (job .entry)) at) ⌝ }
 {
     tested(job, at, 1, byte_at(job, at) <= 7, 25)
 }
 
-pub fn kind(job: &[u8], at: usize) -> At
+pub(crate) fn kind(job: &[u8], at: usize) -> At
     ensures { λ r. ⌜ r ≡ ended (kind (now (job .entry)) at) ⌝ }
 {
     tested(job, at, 1, byte_at(job, at) <= 3, 25)
 }
 
 // A spare field is zero: all its bits are clear.
-pub fn spare_byte(job: &[u8], at: usize) -> At
+pub(crate) fn spare_byte(job: &[u8], at: usize) -> At
     ensures { λ r. ⌜ r ≡ ended (spareByte (now (job .entry)) at) ⌝ }
 {
     tested(job, at, 1, byte_at(job, at) == 0, 25)
 }
 
-pub fn spare_word(job: &[u8], at: usize) -> At
+pub(crate) fn spare_word(job: &[u8], at: usize) -> At
     ensures { λ r. ⌜ r ≡ ended (spareWord (now (job .entry)) at) ⌝ }
 {
     tested(job, at, 4, tables::u32_at(job, at) == 0, 25)
 }
 
 // A font's length and bytes: one field, placed at its length.
-pub fn font_file(job: &[u8], at: usize) -> At
+pub(crate) fn font_file(job: &[u8], at: usize) -> At
     ensures { λ r. ⌜ r ≡ ended (fontFile (now (job .entry)) at) ⌝ }
 {
     if past(job, at, 4) {
@@ -159,14 +159,13 @@ pub fn font_file(job: &[u8], at: usize) -> At
         return At { refusal: 18, at };
     }
     let end = start + size;
-    let font = FontInfo::from_font_ref(&job[start..end]);
-    if font.refusal == 0 {
+    let refusal = font_refusal(&job[start..end]);
+    if refusal == 0 {
         At {
             refusal: 0,
             at: end,
         }
     } else {
-        let refusal = font.refusal;
         At { refusal, at }
     }
 }

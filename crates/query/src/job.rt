@@ -1,7 +1,7 @@
 // The job, and the check call.
 ghost use mathlib.Core.Path.{_≡_};
-ghost use Rattle.query.specs.Reader.{ended};
-ghost use Rattle.query.specs.Job.{readSections, checkJob};
+ghost use Rattle.query.specs.Job.{checkJob};
+ghost use Rattle.query.specs.Found.{Walks, placesOf};
 use crate::fields::At;
 use crate::sections;
 use font::tables;
@@ -15,55 +15,86 @@ pub struct Checked {
     pub position: usize,
 }
 
+// The check call's answer, and where the sections of overrides and families begin; both are 0 in a refused job.
+pub struct Places {
+    pub refusal: u8,
+    pub position: usize,
+    pub overrides: usize,
+    pub families: usize,
+}
+
+fn stopped(end: At) -> Places
+    ensures { λ r. ⌜ r ≡ record { refusal = end .refusal; position = end .at; overrides = 0; families = 0 } ⌝ }
+{
+    Places {
+        refusal: end.refusal,
+        position: end.at,
+        overrides: 0,
+        families: 0,
+    }
+}
+
 // The four sections, and nothing after them.
-fn whole(job: &[u8]) -> At
-    ensures { λ r. ⌜ r ≡ ended (readSections (now (job .entry)) 0) ⌝ }
+fn whole(job: &[u8]) -> Places
+    ensures { λ r. ⌜ Walks (now (job .entry)) r ⌝ }
 {
     let faces = sections::faces(job, 0);
     if faces.refusal != 0 {
-        return faces;
+        return stopped(faces);
     }
     let count = tables::u16_at(job, 0);
     let overrides = sections::overrides(job, faces.at, count);
     if overrides.refusal != 0 {
-        return overrides;
+        return stopped(overrides);
     }
     let families = sections::families(job, overrides.at, count);
     if families.refusal != 0 {
-        return families;
+        return stopped(families);
     }
     let requests = sections::requests(job, families.at);
     if requests.refusal != 0 {
-        return requests;
+        return stopped(requests);
     }
     if requests.at < job.len() {
-        return At {
+        return stopped(At {
             refusal: 27,
             at: requests.at,
+        });
+    }
+    Places {
+        refusal: 0,
+        position: requests.at,
+        overrides: faces.at,
+        families: overrides.at,
+    }
+}
+
+// The first refusal of a job, reading left to right, with its field's position; or where an accepted job has its sections.
+pub(crate) fn walk(job: &[u8]) -> Places
+    ensures { λ r. ⌜ r ≡ placesOf (now (job .entry)) ⌝ }
+{
+    if LONGEST < job.len() {
+        return stopped(At { refusal: 17, at: 0 });
+    }
+    let found = whole(job);
+    if found.refusal == 0 {
+        return Places {
+            refusal: 0,
+            position: 0,
+            overrides: found.overrides,
+            families: found.families,
         };
     }
-    requests
+    found
 }
 
 // The first refusal of a job, reading left to right, with its field's position.
 pub fn check(job: &[u8]) -> Checked
     ensures { λ r. ⌜ r ≡ checkJob (now (job .entry)) ⌝ }
 {
-    if LONGEST < job.len() {
-        return Checked {
-            refusal: 17,
-            position: 0,
-        };
-    }
-    let end = whole(job);
-    if end.refusal == 0 {
-        return Checked {
-            refusal: 0,
-            position: 0,
-        };
-    }
+    let places = walk(job);
     Checked {
-        refusal: end.refusal,
-        position: end.at,
+        refusal: places.refusal,
+        position: places.position,
     }
 }

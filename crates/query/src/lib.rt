@@ -1,13 +1,12 @@
 // Jobs and offers: the job's layout and refusals, the check call, the offers of a request, the cursor, and the exported calls.
-pub mod answer;
 pub mod call;
 pub mod cursor;
-pub mod entries;
+mod entries;
 pub mod export;
-pub mod fields;
+mod fields;
 pub mod job;
-pub mod load;
-pub mod located;
+mod load;
+mod located;
 pub mod offers;
-pub mod record;
-pub mod sections;
+mod record;
+mod sections;

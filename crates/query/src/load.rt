@@ -5,7 +5,11 @@ ghost use mathlib.Core.List.{[], _∷_};
 ghost use Prim.Native.Nat.{_+_, _^_, _≤_, _<_, min};
 ghost use Rattle.font.specs.Overrides.{setDefault};
 ghost use Rattle.query.specs.Sheet.{overriddenBy, afterOverrides};
-ghost use Rattle.query.specs.Load.{runOf, facePlace, fontAt, numberAt, styleAt, givenAt, pairAt, pairEnd, withAxes, afterPairs, overrideAt, overrideEnd, overridePlace, overridesAt, Long, Whole, Loaded, Replaced};
+ghost use Rattle.query.specs.Job.{checkJob};
+ghost use Rattle.query.specs.Offers.{facesOfLists};
+ghost use Rattle.query.specs.Located.{overridesPlace};
+ghost use Rattle.query.specs.Load.{runOf, faceAt, facePlace, fontAt, numberAt, styleAt, givenAt, pairAt, pairEnd, withAxes, afterPairs, overrideAt, overrideEnd, overridesAt, Long, Whole, Fonts, Loaded, Replaced};
+ghost use Rattle.query.specs.Found.{Agrees};
 use crate::fields;
 use font::attributes::Angle;
 use font::attributes::FontStyle;
@@ -13,6 +17,8 @@ use font::attributes::FontWeight;
 use font::attributes::FontWidth;
 use font::font::AxisInfo;
 use font::font::FontInfo;
+use font::font::read_attributes;
+use font::font::states_axis;
 use font::overrides;
 use font::overrides::FontInfoOverride;
 use font::overrides::StyleOverride;
@@ -29,21 +35,29 @@ fn least(a: usize, b: usize) -> usize
     if a < b { a } else { b }
 }
 
+// The font file of the face whose entry lies at a position.
+fn file_at<'a>(job: &'a [u8], at: usize) -> &'a [u8]
+    requires { ⌜ at < 2 ^ 63 ⌝ }
+    ensures { λ r. ⌜ now r ≡ faceAt (now (job .entry)) at .font ⌝ }
+{
+    let size = tables::u32_at(job, at + 1) as usize;
+    let start = least(at + 5, job.len());
+    let end = least(start + size, job.len());
+    &job[start..end]
+}
+
 // The face whose entry lies at a position, as its file states it.
 fn font_at(job: &[u8], at: usize) -> FontInfo
     requires { ⌜ at < 2 ^ 63 ⌝ }
     ensures { λ r. ⌜ r ≡ fontAt (now (job .entry)) at ⌝ }
 {
-    let size = tables::u32_at(job, at + 1) as usize;
-    let start = least(at + 5, job.len());
-    let end = least(start + size, job.len());
-    let checked = FontInfo::from_font_ref(&job[start..end]);
+    let checked = FontInfo::from_font_ref(file_at(job, at));
     let font = checked.font;
     font
 }
 
-// The numbers of `count` faces, the first of which lies at `at`; answers the position after the last.
-pub fn load_faces(
+// The numbers of `count` faces, the first of which lies at `at`.
+fn load_faces(
     job: &[u8],
     at: usize,
     count: usize,
@@ -53,24 +67,36 @@ pub fn load_faces(
     ratios: &mut [u32; 256],
     slants: &mut [bool; 256],
     held: &mut [bool; 256],
-    starts: &mut [usize; 256],
-) -> usize
-    requires { ⌜ (at < 2 ^ 32) × (count ≤ 256) × Whole (now percents) (now styles) (now weights) (now ratios) (now slants) (now held) (now starts) ⌝ }
-    ensures { λ r. ⌜ (r ≡ facePlace (now (job .entry)) at count) × Loaded (now (job .entry)) at count (now (percents .exit)) (now (styles .exit)) (now (weights .exit)) (now (ratios .exit)) (now (slants .exit)) (now (held .exit)) (now (starts .exit)) ⌝ }
+)
+    requires { ⌜ (at < 2 ^ 32) × (count ≤ 256) × Whole (now percents) (now styles) (now weights) (now ratios) (now slants) (now held) ⌝ }
+    requires { ⌜ Fonts (now job) at count ⌝ }
+    ensures { λ _. ⌜ Loaded (now (job .entry)) at count (now (percents .exit)) (now (styles .exit)) (now (weights .exit)) (now (ratios .exit)) (now (slants .exit)) (now (held .exit)) ⌝ }
 {
     let mut place = at;
     let mut i: usize = 0;
     while i < count {
-        let font = font_at(job, place);
-        let attributes = font.attributes;
+        let file = file_at(job, place);
+        let attributes = read_attributes(file);
         let style = attributes.style;
         percents[i] = single::whole_percent(attributes.width.ratio);
         styles[i] = faces::style_number(style);
         weights[i] = single::order_number(attributes.weight.value);
         ratios[i] = single::order_number(attributes.width.ratio);
-        slants[i] = axes::has_axis(font, axes::SLNT);
+        slants[i] = states_axis(file, axes::SLNT);
         held[i] = fields::byte_at(job, place) == 1;
-        starts[i] = place;
+        place += 5 + tables::u32_at(job, place + 1) as usize;
+        i += 1;
+    }
+}
+
+// The position of the face of a number: the first lies after the first count.
+pub(crate) fn face_at(job: &[u8], number: usize) -> usize
+    requires { ⌜ number < 65536 ⌝ }
+    ensures { λ r. ⌜ (r ≡ facePlace (now (job .entry)) 2 number) × (r < 2 ^ 63) ⌝ }
+{
+    let mut place: usize = 2;
+    let mut i: usize = 0;
+    while i < number {
         place += 5 + tables::u32_at(job, place + 1) as usize;
         i += 1;
     }
@@ -151,8 +177,8 @@ fn replace_numbers(
     ratios[face] = either(mask % 2 == 1, single::order_number(width), ratios[face]);
 }
 
-// The overrides in order, on the numbers of the faces; answers the position after the last.
-pub fn load_overrides(
+// The `count` overrides from `at` on, in order, on the numbers of the faces.
+fn load_overrides(
     job: &[u8],
     at: usize,
     count: usize,
@@ -160,9 +186,9 @@ pub fn load_overrides(
     styles: &mut [u32; 256],
     weights: &mut [u32; 256],
     ratios: &mut [u32; 256],
-) -> usize
+)
     requires { ⌜ (at < 2 ^ 32) × (count ≤ 256) × Long (now percents) (now styles) (now weights) (now ratios) ⌝ }
-    ensures { λ r. ⌜ (r ≡ overridePlace (now (job .entry)) at count) × Replaced (overridesAt (now (job .entry)) at count) (now (percents .entry)) (now (styles .entry)) (now (weights .entry)) (now (ratios .entry)) (now (percents .exit)) (now (styles .exit)) (now (weights .exit)) (now (ratios .exit)) ⌝ }
+    ensures { λ _. ⌜ Replaced (overridesAt (now (job .entry)) at count) (now (percents .entry)) (now (styles .entry)) (now (weights .entry)) (now (ratios .entry)) (now (percents .exit)) (now (styles .exit)) (now (weights .exit)) (now (ratios .exit)) ⌝ }
 {
     let mut place = at;
     let mut i: usize = 0;
@@ -171,7 +197,36 @@ pub fn load_overrides(
         place = override_end(job, place);
         i += 1;
     }
-    place
+}
+
+// The numbers of the faces of an accepted job, after the overrides, whose section lies at `section`.
+pub(crate) fn load(
+    job: &[u8],
+    section: usize,
+    percents: &mut [u32; 256],
+    styles: &mut [u32; 256],
+    weights: &mut [u32; 256],
+    ratios: &mut [u32; 256],
+    slants: &mut [bool; 256],
+    held: &mut [bool; 256],
+)
+    requires { ⌜ (checkJob (now job) .refusal ≡ 0) × (section ≡ overridesPlace (now job)) × Whole (now percents) (now styles) (now weights) (now ratios) (now slants) (now held) ⌝ }
+    ensures { λ _. ⌜ Agrees (now (job .entry)) (facesOfLists (now (percents .exit)) (now (styles .exit)) (now (weights .exit)) (now (ratios .exit)) (now (slants .exit)) (now (held .exit))) ⌝ }
+{
+    let faces = tables::u16_at(job, 0) as usize;
+    load_faces(
+        job,
+        2,
+        faces,
+        &mut *percents,
+        &mut *styles,
+        &mut *weights,
+        &mut *ratios,
+        slants,
+        held,
+    );
+    let count = tables::u16_at(job, section) as usize;
+    load_overrides(job, section + 2, count, percents, styles, weights, ratios);
 }
 
 fn width_given(given: bool, ratio: f32) -> WidthOverride
@@ -280,19 +335,14 @@ fn override_face(job: &[u8], at: usize, font: FontInfo) -> FontInfo
     }
 }
 
-// A face after the override at a position, if that names it.
-fn override_named(job: &[u8], at: usize, number: usize, font: FontInfo) -> FontInfo
-    requires { ⌜ (at < 2 ^ 63) × (font .«axis_count» ≤ 16) ⌝ }
-    ensures { λ r. ⌜ r ≡ afterOverrides (overrideAt (now (job .entry)) at ∷ []) number font ⌝ }
-{
-    if tables::u16_at(job, at) as usize == number {
-        return override_face(job, at, font);
-    }
-    font
-}
-
 // The face of a number, whose entry lies at `face_at`, after the `count` overrides from `at` on.
-pub fn offered_face(job: &[u8], face_at: usize, at: usize, count: usize, number: usize) -> FontInfo
+pub(crate) fn offered_face(
+    job: &[u8],
+    face_at: usize,
+    at: usize,
+    count: usize,
+    number: usize,
+) -> FontInfo
     requires { ⌜ («face_at» < 2 ^ 63) × (at < 2 ^ 32) × (count ≤ 256) ⌝ }
     ensures { λ r. ⌜ r ≡ afterOverrides (overridesAt (now (job .entry)) at count) number (fontAt (now (job .entry)) «face_at») ⌝ }
 {
@@ -300,8 +350,10 @@ pub fn offered_face(job: &[u8], face_at: usize, at: usize, count: usize, number:
     let mut place = at;
     let mut i: usize = 0;
     while i < count {
-        let next = override_named(job, place, number, font);
-        font = next;
+        if tables::u16_at(job, place) as usize == number {
+            let next = override_face(job, place, font);
+            font = next;
+        }
         place = override_end(job, place);
         i += 1;
     }

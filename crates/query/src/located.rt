@@ -6,10 +6,9 @@ ghost use lib.ListN.{length, getD};
 ghost use lib.Ieee.Scale.{finite};
 ghost use Rattle.font.specs.Tables.{u16At};
 ghost use Rattle.query.specs.Offers.{fallbacksAt};
-ghost use Rattle.query.specs.Located.{overridesPlace, familiesPlace, familyPlace, requestPlace, singleAt, styleAt, StyleKnown, requestedAt, RequestedKnown};
+ghost use Rattle.query.specs.Located.{familyPlace, requestPlace, singleAt, styleAt, StyleKnown, requestedAt, RequestedKnown};
 use crate::fields;
 use crate::offers;
-use crate::sections;
 use font::attributes::Angle;
 use font::attributes::Attributes;
 use font::attributes::FontStyle;
@@ -17,24 +16,8 @@ use font::attributes::FontWeight;
 use font::attributes::FontWidth;
 use font::tables;
 
-// Where the section of the overrides lies, in an accepted job.
-pub fn overrides_at(job: &[u8]) -> usize
-    ensures { λ r. ⌜ r ≡ overridesPlace (now (job .entry)) ⌝ }
-{
-    let faces = sections::faces(job, 0);
-    faces.at
-}
-
-// Where the section of the families lies, in an accepted job.
-pub fn families_at(job: &[u8]) -> usize
-    ensures { λ r. ⌜ r ≡ familiesPlace (now (job .entry)) ⌝ }
-{
-    let overrides = sections::overrides(job, overrides_at(job), tables::u16_at(job, 0));
-    overrides.at
-}
-
 // The positions of `count` families, of which the first lies at a position; and the position after the last.
-pub fn load_families(job: &[u8], at: usize, count: usize, family_at: &mut [u32; 64]) -> usize
+pub(crate) fn load_families(job: &[u8], at: usize, count: usize, family_at: &mut [u32; 64]) -> usize
     requires { ⌜ (count ≤ 64) × (length (now job) ≤ 16777216) × (familyPlace (now job) at count ≤ length (now job)) × (length (now «family_at») ≡ 64) ⌝ }
     ensures { λ r. ⌜ (r ≡ familyPlace (now (job .entry)) at count) × ((i : ℕ) → i < count → getD (now («family_at» .exit)) i 0 ≡ familyPlace (now (job .entry)) at i) ⌝ }
 {
@@ -57,7 +40,7 @@ fn after_list(job: &[u8], at: usize) -> usize
 }
 
 // The position of a request, by its number among those of which the first lies at a position.
-pub fn request_at(job: &[u8], at: usize, number: usize) -> usize
+pub(crate) fn request_at(job: &[u8], at: usize, number: usize) -> usize
     requires { ⌜ requestPlace (now job) at number ≤ length (now job) ⌝ }
     ensures { λ r. ⌜ r ≡ requestPlace (now (job .entry)) at number ⌝ }
 {
@@ -97,7 +80,7 @@ fn style_at(job: &[u8], at: usize) -> FontStyle
 }
 
 // Ratio, style and weight of a request.
-pub fn requested(job: &[u8], at: usize) -> Attributes
+pub(crate) fn requested(job: &[u8], at: usize) -> Attributes
     requires { ⌜ RequestedKnown (now job) at ⌝ }
     ensures { λ r. ⌜ r ≡ requestedAt (now (job .entry)) at ⌝ }
 {
@@ -108,7 +91,7 @@ pub fn requested(job: &[u8], at: usize) -> Attributes
 }
 
 // The number of the face at a place of a family, by the positions of the families.
-pub fn member_at(job: &[u8], family_at: &[u32; 64], family: u16, place: u16) -> u16
+pub(crate) fn member_at(job: &[u8], family_at: &[u32; 64], family: u16, place: u16) -> u16
     requires { ⌜ family < 64 ⌝ }
     ensures { λ r. ⌜ r ≡ u16At (now (job .entry)) (getD (now («family_at» .entry)) family 0 + 2 + 2 * place) ⌝ }
 {

@@ -145,7 +145,7 @@ fn default_offer(
 }
 
 // The n-th offer of a family of at most 64 faces, given by an array for each number.
-pub fn family_offer(
+fn family_offer(
     percents: &[u32; 64],
     styles: &[u32; 64],
     weights: &[u32; 64],
@@ -224,7 +224,7 @@ fn members_offer(
 }
 
 // A 32-bit number, which its own type bounds.
-pub fn wide(x: u32) -> usize
+pub(crate) fn wide(x: u32) -> usize
     ensures { λ r. ⌜ (r ≡ x) × (x < 2 ^ 32) ⌝ }
 {
     x as usize
@@ -319,7 +319,7 @@ fn list_offer(
 }
 
 // The n-th offer of a request whose two lists of family numbers begin at a position of the job.
-pub fn request_offer(
+pub(crate) fn request_offer(
     job: &[u8],
     at: usize,
     most: usize,

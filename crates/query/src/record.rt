@@ -97,7 +97,7 @@ fn put_index(out: &mut [u8], index: CharmapIndex)
 }
 
 // The record of an offer. A slot past the count of settings is zero.
-pub fn write_record(out: &mut [u8], offer: Offer, synthesis: Synthesis, index: CharmapIndex)
+pub(crate) fn write_record(out: &mut [u8], offer: Offer, synthesis: Synthesis, index: CharmapIndex)
     requires { ⌜ (length (now out) ≡ 40) × (index .«subtable_offset» < 2 ^ 32) ⌝ }
     ensures { λ _. ⌜ now (out .exit) ≡ recordBytes offer synthesis index ⌝ }
 {

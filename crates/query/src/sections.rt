@@ -28,7 +28,7 @@ fn face_run(job: &[u8], at: usize, count: usize) -> At
 }
 
 // Faces, to 256.
-pub fn faces(job: &[u8], at: usize) -> At
+pub(crate) fn faces(job: &[u8], at: usize) -> At
     ensures { λ r. ⌜ r ≡ ended (counted 256 readFace (now (job .entry)) at) ⌝ }
 {
     let count = fields::count(job, at, 256);
@@ -58,7 +58,7 @@ fn override_run(job: &[u8], at: usize, count: usize, faces: u16) -> At
 }
 
 // Overrides, to 256.
-pub fn overrides(job: &[u8], at: usize, faces: u16) -> At
+pub(crate) fn overrides(job: &[u8], at: usize, faces: u16) -> At
     ensures { λ r. ⌜ r ≡ ended (counted 256 (readOverride faces) (now (job .entry)) at) ⌝ }
 {
     let count = fields::count(job, at, 256);
@@ -88,7 +88,7 @@ fn family_run(job: &[u8], at: usize, count: usize, faces: u16) -> At
 }
 
 // Families, to 64.
-pub fn families(job: &[u8], at: usize, faces: u16) -> At
+pub(crate) fn families(job: &[u8], at: usize, faces: u16) -> At
     ensures { λ r. ⌜ r ≡ ended (counted 64 (readFamily faces) (now (job .entry)) at) ⌝ }
 {
     let count = fields::count(job, at, 64);
@@ -118,7 +118,7 @@ fn request_run(job: &[u8], at: usize, count: usize) -> At
 }
 
 // Requests, to 256.
-pub fn requests(job: &[u8], at: usize) -> At
+pub(crate) fn requests(job: &[u8], at: usize) -> At
     ensures { λ r. ⌜ r ≡ ended (counted 256 readRequest (now (job .entry)) at) ⌝ }
 {
     let count = fields::count(job, at, 256);

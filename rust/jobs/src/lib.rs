@@ -11,4 +11,5 @@ pub mod generate;
 pub mod layout;
 pub mod list;
 pub mod numbers;
+pub mod pairs;
 pub mod random;

@@ -27,6 +27,7 @@ pub mod describe;
 pub mod families;
 pub mod fonts;
 pub mod offers;
+pub mod pairs;
 
 #[cfg(test)]
 mod beside;

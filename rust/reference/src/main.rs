@@ -3,7 +3,7 @@
 use std::{env, fs, io, path::PathBuf, process::ExitCode, time::Instant};
 
 use jobs::list;
-use reference::{describe, families, fonts, offers};
+use reference::{describe, families, fonts, offers, pairs};
 
 const USAGE: &str = "\
 usage:
@@ -11,6 +11,7 @@ usage:
   reference families --out DIR [--seed S] [--count N]
   reference jobs --out DIR [--seed S] [--count N] [--labels]
   reference jobs --compare-only [--seed S] [--count N]
+  reference pairs --out DIR
   reference describe FONTFILE";
 
 /// Seed of the lists where none is given.
@@ -95,6 +96,7 @@ fn run() -> Option<io::Result<()>> {
             families::write(&options.out?, &cases)
         }
         "jobs" => jobs(&options, seed)?,
+        "pairs" => pairs::write(&options.out?),
         "describe" => fs::read(options.file?).map(|bytes| println!("{}", describe::line(&bytes))),
         _ => return None,
     })

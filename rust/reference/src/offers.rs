@@ -83,9 +83,9 @@ impl Default for Harness {
 }
 
 impl Harness {
-    /// Compares the two on one job and gives what section 7's program prints
-    /// for it, or says where they differ.
-    pub fn compare(&mut self, case: &Case) -> Result<String, String> {
+    /// Compares the two on one job and gives its lines, or says where they
+    /// differ.
+    pub fn compare(&mut self, case: &Case) -> Result<Lines, String> {
         self.counts.jobs += 1;
         let bytes = &case.bytes[..];
         let (number, position) = plain::check(bytes);
@@ -97,17 +97,17 @@ impl Harness {
         if number != 0 {
             self.counts.refused[number as usize] += 1;
             refused_calls(bytes, number)?;
-            return Ok(format!("refused {number} {position}\n"));
+            return Ok(Lines::of(format!("refused {number} {position}\n")));
         }
         self.counts.accepted += 1;
-        let text = self.compare_offers(bytes)?;
-        if text != plain::text(bytes) {
+        let lines = self.compare_offers(bytes)?;
+        if lines.printed != plain::text(bytes) {
             return Err("the lines differ".into());
         }
-        Ok(text)
+        Ok(lines)
     }
 
-    fn compare_offers(&mut self, bytes: &[u8]) -> Result<String, String> {
+    fn compare_offers(&mut self, bytes: &[u8]) -> Result<Lines, String> {
         let job = layout::parts(bytes);
         if layout::write(&job).bytes != bytes {
             return Err("accepted, but its parts are written down as another job".into());
@@ -116,7 +116,7 @@ impl Harness {
         let mut original = self.original(&job)?;
         self.counts.faces += job.faces.len() as u64;
         self.counts.families += job.families.len() as u64;
-        let mut text = format!("requests {}\n", job.requests.len());
+        let mut lines = Lines::of(format!("requests {}\n", job.requests.len()));
         for (number, request) in job.requests.iter().enumerate() {
             let by_original = original.offers(request);
             let by_plain: Vec<Offer> = plain::offers(&read, &read.requests[number])
@@ -134,7 +134,7 @@ impl Harness {
             for offer in &by_original {
                 let any = offer.embolden || offer.skew != 0 || !offer.settings.is_empty();
                 self.counts.synthesized += u64::from(any);
-                put_line(&mut text, number, offer);
+                lines.put(number, offer);
             }
             // The call, at both ends of one list in a job.
             if number as u64 == self.counts.jobs % job.requests.len() as u64 {
@@ -146,7 +146,7 @@ impl Harness {
         if past != 28 || out != [0x5a; OUTPUT] {
             return Err(format!("a request past the job: {past}"));
         }
-        Ok(text)
+        Ok(lines)
     }
 
     /// The records of every request's offers by the original, of a job that is accepted.
@@ -286,19 +286,37 @@ fn offer_of_plain(offer: &plain::Offer) -> Offer {
     }
 }
 
-fn put_line(text: &mut String, number: usize, offer: &Offer) {
-    let _ = write!(
-        text,
-        "{number} {} {} {} {}",
-        offer.family,
-        offer.place,
-        if offer.embolden { 'b' } else { '-' },
-        offer.skew,
-    );
-    for (tag, bits) in &offer.settings {
-        let _ = write!(text, " {}={bits:08x}", tag.escape_ascii());
+/// What is printed for a job.
+#[derive(Clone, PartialEq, Eq, Debug)]
+pub struct Lines {
+    /// By section 7's program.
+    pub printed: String,
+    /// By `offer_cases`: the same, with the charmap index after the skew.
+    pub indexed: String,
+}
+
+impl Lines {
+    /// Both begin with the same line.
+    fn of(line: String) -> Self {
+        Self {
+            printed: line.clone(),
+            indexed: line,
+        }
     }
-    text.push('\n');
+
+    fn put(&mut self, number: usize, offer: &Offer) {
+        let embolden = if offer.embolden { 'b' } else { '-' };
+        let place = format!("{number} {} {}", offer.family, offer.place);
+        let start = format!("{place} {embolden} {}", offer.skew);
+        let (offset, symbol, mac) = offer.charmap;
+        let index = format!("{offset} {} {}", u8::from(symbol), u8::from(mac));
+        let mut end = String::new();
+        for (tag, bits) in &offer.settings {
+            let _ = write!(end, " {}={bits:08x}", tag.escape_ascii());
+        }
+        let _ = writeln!(self.printed, "{start}{end}");
+        let _ = writeln!(self.indexed, "{start} {index}{end}");
+    }
 }
 
 /// The 40 bytes of an offer, in the order of section 6.
@@ -410,10 +428,10 @@ pub fn write(folder: &Path, cases: impl Iterator<Item = Case>) -> io::Result<Cou
     let mut stdout = String::new();
     let mut harness = Harness::default();
     for case in cases {
-        let text = compare(&mut harness, &case)?;
+        let lines = compare(&mut harness, &case)?;
         stdin.extend((case.bytes.len() as u32).to_be_bytes());
         stdin.extend(&case.bytes);
-        stdout.push_str(&text);
+        stdout.push_str(&lines.indexed);
     }
     fs::create_dir_all(folder)?;
     fs::write(folder.join("stdin"), stdin)?;
@@ -431,7 +449,7 @@ pub fn compare_all(cases: impl Iterator<Item = Case>) -> io::Result<Counts> {
 }
 
 /// A difference or a panic is an error that tells the job in hexadecimal digits.
-fn compare(harness: &mut Harness, case: &Case) -> io::Result<String> {
+pub fn compare(harness: &mut Harness, case: &Case) -> io::Result<Lines> {
     let answer = panic::catch_unwind(AssertUnwindSafe(|| harness.compare(case)));
     let answer = answer.unwrap_or_else(|_| Err("a panic".into()));
     answer.map_err(|difference| {
@@ -491,8 +509,11 @@ mod tests {
     #[test]
     fn example_of_section_7() {
         let case = &list::made()[0];
-        let text = Harness::default().compare(case).unwrap();
-        assert_eq!(text, "requests 1\n0 0 1 - 0\n0 0 0 b 0\n");
+        let lines = Harness::default().compare(case).unwrap();
+        assert_eq!(lines.printed, "requests 1\n0 0 1 - 0\n0 0 0 b 0\n");
+        // Past a directory of two records, OS/2 and the head of cmap.
+        let indexed = "requests 1\n0 0 1 - 0 134 0 0\n0 0 0 b 0 134 0 0\n";
+        assert_eq!(lines.indexed, indexed);
     }
 
     /// A wrong expectation is told.

@@ -5,10 +5,10 @@ use Rattle.output.proofs.lines.print_request.Statement.{statement}
 use Rattle.output.proofs.lines.print_request.Tie as tie
 
 abbrev Inv-loop : tie.InvT-loop
-Inv-loop job request n₀ n = Unit {0}
+Inv-loop job request indexed n₀ n = Unit {0}
 
 abbrev μ-loop : tie.MeasureT-loop
-μ-loop job request n₀ n = 65536 - n
+μ-loop job request indexed n₀ n = 65536 - n
 
 loop-holds : tie.Need-loop-holds Inv-loop μ-loop
 loop-holds c = search needs

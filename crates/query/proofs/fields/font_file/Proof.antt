@@ -34,23 +34,23 @@ returns-2 c = past-font _ _ _ (c .before .before .u32-at .ensures) (ltb-false (l
 add-end : tie.Need-add-end
 add-end c = omega (arith, ltb-false (length (c .before .before .before .before .before .before .args .job .now)) (c .before .before .before .before .before .before .args .at + 4 + c .before .before .u32-at .result) (sym (c .before .past2 .ensures) ∙ c .if2 .left))
 
-sub-from-font-ref : tie.Need-sub-from-font-ref
-sub-from-font-ref c = search needs
+sub-font-refusal : tie.Need-sub-font-refusal
+sub-font-refusal c = search needs
 
-part-from-font-ref-start : tie.Need-part-from-font-ref-start
-part-from-font-ref-start c = search needs
+part-font-refusal-start : tie.Need-part-font-refusal-start
+part-font-refusal-start c = search needs
 
-part-from-font-ref-end : tie.Need-part-from-font-ref-end
-part-from-font-ref-end c = ltb-false (length (c .before .before .before .before .before .before .args .job .now)) (c .before .before .before .before .before .before .args .at + 4 + c .before .before .u32-at .result) (sym (c .before .past2 .ensures) ∙ c .if2 .left)
+part-font-refusal-end : tie.Need-part-font-refusal-end
+part-font-refusal-end c = ltb-false (length (c .before .before .before .before .before .before .args .job .now)) (c .before .before .before .before .before .before .args .at + 4 + c .before .before .u32-at .result) (sym (c .before .past2 .ensures) ∙ c .if2 .left)
 
-from-font-ref-requires : tie.Need-from-font-ref-requires
-from-font-ref-requires c κs = search needs
+font-refusal-requires : tie.Need-font-refusal-requires
+font-refusal-requires c κs = search needs
 
 returns-3 : tie.Need-returns-3
-returns-3 c = taken _ _ _ _ (c .before .before .before .before .before .before .u32-at .ensures) (ltb-false (length (c .before .before .before .before .before .before .before .before .before .before .args .job .now)) (c .before .before .before .before .before .before .before .before .before .before .args .at + 4 + c .before .before .before .before .before .before .u32-at .result) (sym (c .before .before .before .before .before .past2 .ensures) ∙ c .before .before .before .before .if2 .left)) (c .before .before .from-font-ref .ensures) (c .if3 .taken)
+returns-3 c = taken _ _ _ _ (c .before .before .before .before .before .u32-at .ensures) (ltb-false (length (c .before .before .before .before .before .before .before .before .before .args .job .now)) (c .before .before .before .before .before .before .before .before .before .args .at + 4 + c .before .before .before .before .before .u32-at .result) (sym (c .before .before .before .before .past2 .ensures) ∙ c .before .before .before .if2 .left)) (c .before .font-refusal .ensures) (c .if3 .taken)
 
 returns-4 : tie.Need-returns-4
-returns-4 c = refused-font _ _ _ _ (c .before .before .before .before .before .before .u32-at .ensures) (ltb-false (length (c .before .before .before .before .before .before .before .before .before .before .args .job .now)) (c .before .before .before .before .before .before .before .before .before .before .args .at + 4 + c .before .before .before .before .before .before .u32-at .result) (sym (c .before .before .before .before .before .past2 .ensures) ∙ c .before .before .before .before .if2 .left)) (c .before .before .from-font-ref .ensures) (c .if3 .left)
+returns-4 c = refused-font _ _ _ _ (c .before .before .before .before .before .u32-at .ensures) (ltb-false (length (c .before .before .before .before .before .before .before .before .before .args .job .now)) (c .before .before .before .before .before .before .before .before .before .args .at + 4 + c .before .before .before .before .before .u32-at .result) (sym (c .before .before .before .before .past2 .ensures) ∙ c .before .before .before .if2 .left)) (c .before .font-refusal .ensures) (c .if3 .left)
 
 pub font-file-spec : {M : Type 1} → statement M
 font-file-spec =
@@ -64,9 +64,9 @@ font-file-spec =
     past-requires-2
     returns-2
     add-end
-    sub-from-font-ref
-    part-from-font-ref-start
-    part-from-font-ref-end
-    from-font-ref-requires
+    sub-font-refusal
+    part-font-refusal-start
+    part-font-refusal-end
+    font-refusal-requires
     returns-3
     returns-4)

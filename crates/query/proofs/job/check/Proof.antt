@@ -1,22 +1,15 @@
 -- `query::job::check` meets its contract.
 -- Assumes nothing.
-use native.Mathlib.Omega.{arith}
-use Rattle.query.proofs.Checks.{over, accepted, not-accepted}
+use Rattle.query.proofs.Walked.{checked}
 use borrow.Author.Needs.{needs}
 use Rattle.query.proofs.job.check.Statement.{statement}
 use Rattle.query.proofs.job.check.Tie as tie
 
+walk-requires : tie.Need-walk-requires
+walk-requires c κs = search needs
+
 returns : tie.Need-returns
-returns c = over (c .before .before .args .job .now) (omega arith)
-
-whole-requires : tie.Need-whole-requires
-whole-requires c κs = search needs
-
-returns-2 : tie.Need-returns-2
-returns-2 c = accepted (c .before .before .before .before .before .args .job .now) (omega arith) (c .before .before .whole .ensures) (c .if2 .taken)
-
-returns-3 : tie.Need-returns-3
-returns-3 c = not-accepted (c .before .before .before .before .before .args .job .now) (omega arith) (c .before .before .whole .ensures) (c .if2 .left)
+returns c = checked _ _ (c .walk .ensures)
 
 pub check-spec : {M : Type 1} → statement M
-check-spec = tie.close (tie.spec returns whole-requires returns-2 returns-3)
+check-spec = tie.close (tie.spec walk-requires returns)

@@ -6,18 +6,19 @@ use Prim.Native.Nat.{ℕ, _+_, _*_, _-_, _≤_}
 use mathlib.Core.Path.{_≡_, refl, ap, _∙_}
 use native.Mathlib.Omega.{arith}
 use borrow.Author.Needs.{needs}
-use Rattle.query.specs.Load.{placeOf, facePlace, Loaded}
-use Rattle.query.proofs.Loads.{loaded-none, loaded-more, face-next}
+use Rattle.query.specs.Located.{placeOf}
+use Rattle.query.specs.Load.{facePlace, Loaded}
+use Rattle.query.proofs.Loads.{loaded-none, loaded-more, attributes-read, slant-read, face-next}
 use Rattle.query.proofs.load.load_faces.Statement.{statement}
 use Rattle.query.proofs.load.load_faces.Tie as tie
 
 abbrev Inv-loop : tie.InvT-loop
-Inv-loop job at count percents₀ styles₀ weights₀ ratios₀ slants₀ held₀ starts₀ place₀ i₀ percents styles weights ratios slants held starts place i =
+Inv-loop job at count percents₀ styles₀ weights₀ ratios₀ slants₀ held₀ place₀ i₀ percents styles weights ratios slants held place i =
     (i ≤ count) × (place ≡ facePlace job at i) × (place ≤ at + i * 4294967300)
-    × Loaded job at i percents styles weights ratios slants held starts
+    × Loaded job at i percents styles weights ratios slants held
 
 abbrev μ-loop : tie.MeasureT-loop
-μ-loop job at count percents₀ styles₀ weights₀ ratios₀ slants₀ held₀ starts₀ place₀ i₀ percents styles weights ratios slants held starts place i =
+μ-loop job at count percents₀ styles₀ weights₀ ratios₀ slants₀ held₀ place₀ i₀ percents styles weights ratios slants held place i =
     count - i
 
 loop-holds : tie.Need-loop-holds Inv-loop μ-loop
@@ -26,11 +27,14 @@ loop-holds c = (
   omega arith,
   refl,
   omega arith,
-  loaded-none _ _ _ _ _ _ _ _ _ (c .before .pre .2),
+  loaded-none _ _ _ _ _ _ _ _ (c .before .pre .0 .2),
 )
 
-font-at-requires : tie.Need-font-at-requires Inv-loop μ-loop
-font-at-requires c κs = omega arith
+file-at-requires : tie.Need-file-at-requires Inv-loop μ-loop
+file-at-requires c κs = omega arith
+
+read-attributes-requires : tie.Need-read-attributes-requires Inv-loop μ-loop
+read-attributes-requires c κs = search needs
 
 whole-percent-requires : tie.Need-whole-percent-requires Inv-loop μ-loop
 whole-percent-requires c κs = search needs
@@ -68,8 +72,8 @@ mul-ratios c = omega arith
 element-write-ratios : tie.Need-element-write-ratios Inv-loop μ-loop
 element-write-ratios c = omega arith
 
-has-axis-requires : tie.Need-has-axis-requires Inv-loop μ-loop
-has-axis-requires c κs = search needs
+states-axis-requires : tie.Need-states-axis-requires Inv-loop μ-loop
+states-axis-requires c κs = search needs
 
 element-write-slants : tie.Need-element-write-slants Inv-loop μ-loop
 element-write-slants c = omega arith
@@ -79,12 +83,6 @@ byte-at-requires c κs = search needs
 
 element-write-held : tie.Need-element-write-held Inv-loop μ-loop
 element-write-held c = omega arith
-
-mul-starts : tie.Need-mul-starts Inv-loop μ-loop
-mul-starts c = omega arith
-
-element-write-starts : tie.Need-element-write-starts Inv-loop μ-loop
-element-write-starts c = omega arith
 
 add-u32-at : tie.Need-add-u32-at Inv-loop μ-loop
 add-u32-at c = omega arith
@@ -110,18 +108,19 @@ loop-less c = omega arith
 loop-again : tie.Need-loop-again Inv-loop μ-loop
 unfolding slnt
 loop-again c =
-    let more =
-    loaded-more _ _ _ _ (c .before .before .before .before .before .before .before .before .font-at .result) _ _ _ _ _ _ (c .before .before .before .before .before .before .before .before .before .before .loop .inv .1) (c .before .before .before .before .before .before .before .before .font-at .ensures) (omega arith) (c .before .before .before .before .before .before .before .before .before .before .loop .inv .3)
-    (c .before .before .before .before .before .before .whole-percent .ensures) (c .before .before .before .before .before .style-number .ensures) (c .before .before .before .before .order-number .ensures) (c .before .before .before .order-number2 .ensures) (c .before .before .has-axis .ensures)
+    let inv = c .before .before .before .before .before .before .before .before .before .before .loop .inv in
+    let taken = c .before .before .before .before .before .before .before .before .before .before .before .before .pre .1 .taken (c .before .before .before .before .before .before .before .before .before .before .loop .i) (omega arith) in
+    let more = loaded-more _ _ _ _ _ _ _ _ _ _ _ (inv .1)
+    (attributes-read _ _ (rw (← inv .1) at taken) _ (c .before .before .before .before .before .before .before .before .file-at .ensures) _ (c .before .before .before .before .before .before .before .read-attributes .ensures)) (omega arith) (inv .3)
+    (c .before .before .before .before .before .before .whole-percent .ensures) (c .before .before .before .before .before .style-number .ensures) (c .before .before .before .before .order-number .ensures) (c .before .before .before .order-number2 .ensures)
+    (slant-read _ _ (rw (← inv .1) at taken) _ (c .before .before .before .before .before .before .before .before .file-at .ensures) _ (c .before .before .states-axis .ensures))
     (ap (λ (b : ℕ). eqb b 1) (c .before .byte-at .ensures)) in
-    (omega arith, face-next _ _ _ _ _ (c .before .before .before .before .before .before .before .before .before .before .loop .inv .1) (c .u32-at .ensures), omega arith, more)
+    (omega arith, face-next _ _ _ _ _ (inv .1) (c .u32-at .ensures), omega arith, more)
 
 returns : tie.Need-returns Inv-loop μ-loop
 returns c =
-    let end : c .before .loop .i ≡ c .before .before .before .args .count = omega arith in (
-      c .before .loop .inv .1 ∙ ap (facePlace (c .before .before .before .args .job .now) (c .before .before .before .args .at)) end,
-      rw end at (c .before .loop .inv .3),
-    )
+    let end : c .before .loop .i ≡ c .before .before .before .args .count = omega arith in
+    rw end at (c .before .loop .inv .3)
 
 pub load-faces-spec : {M : Type 1} → statement M
 load-faces-spec =
@@ -130,7 +129,8 @@ load-faces-spec =
     Inv-loop
     μ-loop
     loop-holds
-    font-at-requires
+    file-at-requires
+    read-attributes-requires
     whole-percent-requires
     mul-percents
     element-write-percents
@@ -143,12 +143,10 @@ load-faces-spec =
     order-number-requires-2
     mul-ratios
     element-write-ratios
-    has-axis-requires
+    states-axis-requires
     element-write-slants
     byte-at-requires
     element-write-held
-    mul-starts
-    element-write-starts
     add-u32-at
     u32-at-requires
     cast-place

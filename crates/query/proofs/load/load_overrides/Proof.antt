@@ -3,7 +3,8 @@
 use Prim.Native.Nat.{_+_, _*_, _-_, _≤_}
 use mathlib.Core.Path.{_≡_, refl, ap, _∙_}
 use native.Mathlib.Omega.{arith}
-use Rattle.query.specs.Load.{placeOf, overridePlace, overridesAt, Replaced}
+use Rattle.query.specs.Located.{placeOf}
+use Rattle.query.specs.Load.{overridePlace, overridesAt, Replaced}
 use Rattle.query.proofs.Replacing.{replaced-none, replaced-more, override-next}
 use Rattle.query.proofs.load.load_overrides.Statement.{statement}
 use Rattle.query.proofs.load.load_overrides.Tie as tie
@@ -43,10 +44,8 @@ loop-again c = (
 
 returns : tie.Need-returns Inv-loop μ-loop
 returns c =
-    let end : c .before .loop .i ≡ c .before .before .before .args .count = omega arith in (
-      c .before .loop .inv .1 ∙ ap (overridePlace (c .before .before .before .args .job .now) (c .before .before .before .args .at)) end,
-      rw end at (c .before .loop .inv .3),
-    )
+    let end : c .before .loop .i ≡ c .before .before .before .args .count = omega arith in
+    rw end at (c .before .loop .inv .3)
 
 pub load-overrides-spec : {M : Type 1} → statement M
 load-overrides-spec =

@@ -6,7 +6,8 @@ use native.Mathlib.Omega.{arith}
 use borrow.Author.Needs.{needs}
 use Rattle.font.specs.declared.font.FontInfo.{FontInfo}
 use Rattle.font.specs.Overrides.{setDefaults}
-use Rattle.query.specs.Load.{placeOf, runOf, pairAt, pairEnd, withAxes, afterPairs}
+use Rattle.query.specs.Located.{placeOf}
+use Rattle.query.specs.Load.{runOf, pairAt, pairEnd, withAxes, afterPairs}
 use Rattle.query.proofs.Applied.{pair-next, pairs-more}
 use Rattle.query.proofs.load.with_pairs.Statement.{statement}
 use Rattle.query.proofs.load.with_pairs.Tie as tie

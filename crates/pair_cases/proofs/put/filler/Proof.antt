@@ -1,0 +1,46 @@
+-- `pair_cases::put::filler` is safe and ends: nothing has to hold from turn to turn, and the measure is what is left of the filler. Assumes nothing.
+use Prim.Native.Nat.{_-_}
+use borrow.Author.Needs.{needs}
+use Rattle.pair_cases.proofs.put.filler.Statement.{statement}
+use Rattle.pair_cases.proofs.put.filler.Tie as tie
+
+abbrev Inv-loop : tie.InvT-loop
+Inv-loop out₀ at from end salt next₀ i₀ out next i = Unit {0}
+
+abbrev μ-loop : tie.MeasureT-loop
+μ-loop out₀ at from end salt next₀ i₀ out next i = end - i
+
+loop-holds : tie.Need-loop-holds Inv-loop μ-loop
+loop-holds c = search needs
+
+filler-byte-requires : tie.Need-filler-byte-requires Inv-loop μ-loop
+filler-byte-requires c κs = search needs
+
+byte-requires : tie.Need-byte-requires Inv-loop μ-loop
+byte-requires c κs = search needs
+
+add-i : tie.Need-add-i Inv-loop μ-loop
+add-i c = search needs
+
+loop-less : tie.Need-loop-less Inv-loop μ-loop
+loop-less c = search needs
+
+loop-again : tie.Need-loop-again Inv-loop μ-loop
+loop-again c = search needs
+
+returns : tie.Need-returns Inv-loop μ-loop
+returns c = search needs
+
+pub filler-spec : {M : Type 1} → statement M
+filler-spec =
+    tie.close
+    (tie.spec
+    Inv-loop
+    μ-loop
+    loop-holds
+    filler-byte-requires
+    byte-requires
+    add-i
+    loop-less
+    loop-again
+    returns)

@@ -1,0 +1,78 @@
+/* Reads a job from standard input and prints its offers, or why it is refused: `requests N`, then for each offer the
+ * request, family, place, b or -, skew, and tag=bits for each setting.
+ *
+ *     cc -I include examples/offers.c ../../target/staticlib/libstemhook.a -o target/offers && target/offers <JOB
+ */
+#include <inttypes.h>
+#include <stdio.h>
+#include <stdlib.h>
+
+#include "stemhook.h"
+
+static unsigned half_at(const uint8_t *bytes)
+{
+    return (unsigned)bytes[0] << 8 | bytes[1];
+}
+
+static void print_offer(unsigned request, const uint8_t *out)
+{
+    const uint8_t *slot = out + STEMHOOK_AT_SETTINGS;
+    unsigned i;
+
+    printf("%u %u %u %c %d", request, half_at(out + STEMHOOK_AT_FAMILY), half_at(out + STEMHOOK_AT_PLACE),
+           out[STEMHOOK_AT_EMBOLDEN] ? 'b' : '-', (int8_t)out[STEMHOOK_AT_SKEW]);
+    for (i = 0; i < out[STEMHOOK_AT_SETTING_COUNT]; i++, slot += 8)
+        printf(" %.4s=%02x%02x%02x%02x", (const char *)slot, slot[4], slot[5], slot[6], slot[7]);
+    printf("\n");
+}
+
+/* The number of requests: the first that the offer call does not find. */
+static unsigned request_count(const uint8_t *job, size_t length)
+{
+    uint8_t out[STEMHOOK_OFFER_BYTES];
+    unsigned count = 0;
+
+    while (stemhook_offer(job, length, count, UINT32_MAX, out, sizeof out) == STEMHOOK_PAST_LIST)
+        count++;
+    return count;
+}
+
+static void print_job(const uint8_t *job, size_t length)
+{
+    uint64_t checked = stemhook_check(job, length);
+    uint8_t out[STEMHOOK_OFFER_BYTES];
+    unsigned requests, request;
+    uint32_t offer;
+
+    if (checked != 0) {
+        printf("refused %" PRIu32 " %" PRIu32 "\n", STEMHOOK_REFUSAL(checked), STEMHOOK_POSITION(checked));
+        return;
+    }
+    requests = request_count(job, length);
+    printf("requests %u\n", requests);
+    for (request = 0; request < requests; request++)
+        for (offer = 0; stemhook_offer(job, length, request, offer, out, sizeof out) == STEMHOOK_OFFERED; offer++)
+            print_offer(request, out);
+}
+
+int main(void)
+{
+    /* One byte more than a job may have, so that a longer one is refused. */
+    size_t space = (size_t)STEMHOOK_JOB_BYTES + 1;
+    uint8_t *job = malloc(space);
+    size_t length;
+
+    if (job == NULL) {
+        fprintf(stderr, "offers: out of memory\n");
+        return 1;
+    }
+    length = fread(job, 1, space, stdin);
+    if (ferror(stdin)) {
+        perror("offers: standard input");
+        free(job);
+        return 1;
+    }
+    print_job(job, length);
+    free(job);
+    return fflush(stdout) == 0 ? 0 : 1;
+}

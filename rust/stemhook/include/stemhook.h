@@ -1,0 +1,104 @@
+/* The calls of the proved font face picker Stemhook, for C and C++.
+ *
+ * Link target/staticlib/libstemhook.a, which tools/static-library makes (x86-64 Linux). The library keeps nothing
+ * between calls and allocates nothing: calls may run at the same time in several threads.
+ *
+ * A job is big-endian bytes: faces, overrides, families and requests, each section after a 16-bit count.
+ *
+ *   face      held byte 0 or 1; 32-bit length; font file
+ *   override  16-bit face; mask byte (1 width, 2 style, 4 weight); ratio; style; weight; pair count byte; pairs of tag
+ *             and value. Fields that are not in the mask are zero.
+ *   family    16-bit face count; 16-bit face numbers
+ *   request   16-bit most offers; ratio; style; weight; families; fallbacks: each a count byte and 16-bit numbers
+ *
+ * A style is a kind byte (0 normal, 1 italic, 2 oblique unstated, 3 oblique with an angle) and an angle, zero unless the
+ * kind is 3. Ratio, angle, weight and value are the 32 bits of a single. Everything counts from 0.
+ */
+#ifndef STEMHOOK_H
+#define STEMHOOK_H
+
+#include <stddef.h>
+#include <stdint.h>
+
+#ifdef __cplusplus
+extern "C" {
+#endif
+
+/* Limits of a job. */
+#define STEMHOOK_JOB_BYTES 16777216
+#define STEMHOOK_FACES 256
+#define STEMHOOK_OVERRIDES 256
+#define STEMHOOK_FAMILIES 64
+#define STEMHOOK_FAMILY_FACES 64
+#define STEMHOOK_REQUESTS 256
+
+/* Answers of stemhook_offer that are no refusal. */
+#define STEMHOOK_OFFERED 0   /* the 40 bytes are written */
+#define STEMHOOK_PAST_LIST 1 /* the request has no offer of that number */
+
+/* Refusals. The first that is met counts, reading from left to right; for one field, in this order. */
+#define STEMHOOK_REFUSED_OUTPUT_LENGTH 16    /* the output is not 40 bytes long */
+#define STEMHOOK_REFUSED_JOB_LENGTH 17       /* the job is over 16777216 bytes long */
+#define STEMHOOK_REFUSED_PAST_END 18         /* a field runs past the job's end */
+#define STEMHOOK_REFUSED_COUNT_OVER_LIMIT 19 /* a count is over its limit */
+#define STEMHOOK_REFUSED_HELD_BYTE 20        /* a held byte is not 0 or 1 */
+#define STEMHOOK_REFUSED_FONT_DIRECTORY 21   /* the font has a bad start, or its directory runs past the file */
+#define STEMHOOK_REFUSED_NO_CHARMAP 22       /* the font has no qualifying cmap record */
+#define STEMHOOK_REFUSED_TOO_MANY_AXES 23    /* the font has over 16 axes */
+#define STEMHOOK_REFUSED_NO_SUCH_FACE 24     /* a face number is not in the job */
+#define STEMHOOK_REFUSED_UNKNOWN_OR_SPARE 25 /* a mask or style kind is unknown, or a spare field is not zero */
+#define STEMHOOK_REFUSED_NUMBER_OUTSIDE 26   /* a number is not finite, or a width ratio not from 0 to 16 */
+#define STEMHOOK_REFUSED_BYTES_LEFT 27       /* bytes are left after the job's end */
+#define STEMHOOK_REFUSED_NO_SUCH_REQUEST 28  /* the request is not in the job */
+#define STEMHOOK_REFUSED_FOURTH_SETTING 29   /* synthesis would give a fourth setting */
+
+/* The check call: 0 for an accepted job, else the position of the refused field times 256, plus the refusal (17 to 27).
+ * A font's position is that of its length field; that of 27 is the first byte left; 17 has position 0.
+ *
+ * `job` points at `length` bytes and is not NULL, even for length 0.
+ */
+uint64_t stemhook_check(const uint8_t *job, size_t length);
+
+/* The parts of what stemhook_check answers. */
+#define STEMHOOK_REFUSAL(answer) ((uint32_t)((answer) & 0xff))
+#define STEMHOOK_POSITION(answer) ((uint32_t)((answer) >> 8))
+
+/* Bytes of an offer, and where its fields stand. All are big-endian.
+ *
+ *    0  family, 16 bits
+ *    2  place in the family, 16 bits
+ *    4  embolden, 0 or 1
+ *    5  skew in degrees, two's complement
+ *    6  setting count, 0 to 3
+ *    7  zero
+ *    8  three slots of 8 bytes: tag, and value as the 32 bits of a single; zero where unused
+ *   32  offset of the cmap subtable from the start of the font file, 32 bits
+ *   36  symbol subtable, 0 or 1
+ *   37  Mac Roman subtable, 0 or 1
+ *   38  two zero bytes
+ */
+#define STEMHOOK_OFFER_BYTES 40
+#define STEMHOOK_AT_FAMILY 0
+#define STEMHOOK_AT_PLACE 2
+#define STEMHOOK_AT_EMBOLDEN 4
+#define STEMHOOK_AT_SKEW 5
+#define STEMHOOK_AT_SETTING_COUNT 6
+#define STEMHOOK_AT_SETTINGS 8
+#define STEMHOOK_AT_CHARMAP_OFFSET 32
+#define STEMHOOK_AT_SYMBOL 36
+#define STEMHOOK_AT_MAC_ROMAN 37
+
+/* The offer call: writes offer number `offer` of a request and answers STEMHOOK_OFFERED; or writes nothing and answers
+ * STEMHOOK_PAST_LIST or a refusal (16 to 28; 29 is proved never to be given). It reads the whole job each time.
+ *
+ * `job` points at `length` bytes and `out` at `out_length` bytes; neither is NULL, and they do not overlap. An
+ * `out_length` other than 40 is refused.
+ */
+uint32_t stemhook_offer(const uint8_t *job, size_t length, uint32_t request, uint32_t offer, uint8_t *out,
+                        size_t out_length);
+
+#ifdef __cplusplus
+}
+#endif
+
+#endif

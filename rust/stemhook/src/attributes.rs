@@ -1,0 +1,90 @@
+//! Width, style and weight, as fonts have them and requests ask for them.
+
+use std::fmt;
+
+/// The angle of an oblique style.
+#[derive(Clone, Copy, Debug, Default, PartialEq)]
+pub enum Angle {
+    /// No angle is stated. It ranks as 14 degrees, but is a style of its own.
+    #[default]
+    Unstated,
+    /// An angle in degrees.
+    Degrees(f32),
+}
+
+/// A style.
+#[derive(Clone, Copy, Debug, Default, PartialEq)]
+pub enum Style {
+    /// Upright.
+    #[default]
+    Normal,
+    /// Italic.
+    Italic,
+    /// Oblique, with its angle.
+    Oblique(Angle),
+}
+
+/// Width, style and weight.
+///
+/// ```
+/// use stemhook::{Attributes, Style};
+///
+/// let bold = Attributes { weight: 700.0, ..Attributes::default() };
+/// assert_eq!(bold.width, 1.0);
+/// assert_eq!(bold.style, Style::Normal);
+/// ```
+#[derive(Clone, Copy, Debug, PartialEq)]
+pub struct Attributes {
+    /// The width as a ratio of the normal one: 0.75 is condensed. From 0 to 16.
+    pub width: f32,
+    /// The style.
+    pub style: Style,
+    /// The weight: 400 is regular, 700 is bold. Any finite number.
+    pub weight: f32,
+}
+
+impl Default for Attributes {
+    /// Width 1, normal, weight 400.
+    fn default() -> Self {
+        Self {
+            width: 1.0,
+            style: Style::Normal,
+            weight: 400.0,
+        }
+    }
+}
+
+/// The tag of a variation axis: four bytes.
+///
+/// ```
+/// use stemhook::Tag;
+///
+/// assert_eq!(Tag::WGHT, Tag(*b"wght"));
+/// assert_eq!(Tag::WGHT.to_string(), "wght");
+/// ```
+#[derive(Clone, Copy, Debug, Default, PartialEq, Eq, PartialOrd, Ord, Hash)]
+pub struct Tag(pub [u8; 4]);
+
+impl Tag {
+    /// Width, in percent.
+    pub const WDTH: Self = Self(*b"wdth");
+    /// Weight.
+    pub const WGHT: Self = Self(*b"wght");
+    /// Italic.
+    pub const ITAL: Self = Self(*b"ital");
+    /// Slant, in degrees.
+    pub const SLNT: Self = Self(*b"slnt");
+}
+
+impl From<[u8; 4]> for Tag {
+    fn from(bytes: [u8; 4]) -> Self {
+        Self(bytes)
+    }
+}
+
+/// The four characters; bytes that are no printable ASCII are escaped.
+impl fmt::Display for Tag {
+    fn fmt(&self, f: &mut fmt::Formatter<'_>) -> fmt::Result {
+        write!(f, "{}", self.0.escape_ascii())
+    }
+}

@@ -1,0 +1,109 @@
+//! What the tests share.
+
+// Each test program uses a part of it.
+#![allow(dead_code)]
+
+pub mod fonts;
+
+use std::{
+    env,
+    fmt::Write as _,
+    fs,
+    io::{self, Write as _},
+    path::PathBuf,
+};
+
+use stemhook::{Job, Offer, check};
+
+/// A file of the repository, by its path from the root.
+pub fn repository_file(path: &str) -> PathBuf {
+    PathBuf::from(env!("CARGO_MANIFEST_DIR"))
+        .join("../..")
+        .join(path)
+}
+
+/// The bytes of a file of the repository.
+pub fn read(path: &str) -> Vec<u8> {
+    fs::read(repository_file(path)).unwrap_or_else(|error| panic!("{path}: {error}"))
+}
+
+/// Says that a test is skipped for lack of something, on standard error even
+/// where the test passes. With STEMHOOK_SKIP_NOTHING set, as in the gate, it
+/// fails the test instead.
+pub fn skip(test: &str, lack: &str) {
+    assert!(
+        env::var_os("STEMHOOK_SKIP_NOTHING").is_none(),
+        "{test}: {lack}"
+    );
+    // Not by a macro: those are captured.
+    let _ = writeln!(io::stderr(), "\n{test}: SKIPPED: {lack}");
+}
+
+/// What the program `offers` prints for a job.
+pub fn text(bytes: &[u8]) -> String {
+    let job = match Job::new(bytes) {
+        Ok(job) => job,
+        Err(refused) => {
+            let position = refused.position().unwrap_or(0);
+            return format!("refused {} {position}\n", refused.number());
+        }
+    };
+    assert_eq!(check(bytes), Ok(()));
+    let mut text = format!("requests {}\n", job.requests());
+    for request in 0..job.requests() {
+        for offer in job.offers(request).expect("the request is in the job") {
+            write!(text, "{request} ").expect("a string takes text");
+            text += &line(&offer);
+        }
+    }
+    text
+}
+
+fn line(offer: &Offer) -> String {
+    let bold = if offer.embolden { 'b' } else { '-' };
+    let mut line = format!("{} {} {bold} {}", offer.family, offer.place, offer.skew);
+    for setting in &offer.settings {
+        line += &format!(" {}={:08x}", setting.tag, setting.value.to_bits());
+    }
+    line + "\n"
+}
+
+/// Numbers from a seed: SplitMix64.
+pub struct Random(pub u64);
+
+impl Random {
+    pub fn next(&mut self) -> u64 {
+        self.0 = self.0.wrapping_add(0x9e37_79b9_7f4a_7c15);
+        let mut x = self.0;
+        x = (x ^ (x >> 30)).wrapping_mul(0xbf58_476d_1ce4_e5b9);
+        x = (x ^ (x >> 27)).wrapping_mul(0x94d0_49bb_1331_11eb);
+        x ^ (x >> 31)
+    }
+
+    /// A number below a limit.
+    pub fn below(&mut self, limit: usize) -> usize {
+        (self.next() % limit as u64) as usize
+    }
+
+    pub fn chance(&mut self, one_in: usize) -> bool {
+        self.below(one_in) == 0
+    }
+
+    /// One of some values.
+    pub fn of<T: Copy>(&mut self, values: &[T]) -> T {
+        values[self.below(values.len())]
+    }
+}
+
+/// The jobs of a list, each after its 32-bit length.
+pub fn jobs(list: &[u8]) -> Vec<&[u8]> {
+    let mut jobs = Vec::new();
+    let mut rest = list;
+    while let Some((length, after)) = rest.split_first_chunk::<4>() {
+        let (job, next) = after.split_at(u32::from_be_bytes(*length) as usize);
+        jobs.push(job);
+        rest = next;
+    }
+    assert!(rest.is_empty(), "the list ends within a length");
+    jobs
+}

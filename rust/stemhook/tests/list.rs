@@ -1,0 +1,111 @@
+//! The stored list of jobs, with the answers of the original sources.
+
+mod common;
+
+use stemhook::{Job, Offer, Refusal, check, offer, offer_bytes};
+
+fn list() -> Vec<u8> {
+    common::read("crates/offer_cases/stdin")
+}
+
+#[test]
+fn every_stored_job_is_answered_as_stored() {
+    let list = list();
+    let answers = String::from_utf8(common::read("crates/offer_cases/stdout")).unwrap();
+    let jobs = common::jobs(&list);
+    assert!(jobs.len() > 1000, "the list has {} jobs", jobs.len());
+    let mut rest = answers.as_str();
+    for (number, job) in jobs.into_iter().enumerate() {
+        let text = common::text(job);
+        let Some(after) = rest.strip_prefix(text.as_str()) else {
+            let stored: Vec<&str> = rest.lines().take(text.lines().count()).collect();
+            panic!(
+                "job {number}: answered\n{text}stored\n{}",
+                stored.join("\n")
+            );
+        };
+        rest = after;
+    }
+    assert_eq!(rest, "", "answers are left");
+}
+
+#[test]
+fn the_iterator_gives_the_offers_by_number() {
+    let list = list();
+    let mut offered = 0;
+    for bytes in common::jobs(&list) {
+        let Ok(job) = Job::new(bytes) else { continue };
+        for request in 0..job.requests() {
+            let mut offers = job.offers(request).unwrap();
+            let mut number = 0;
+            while let Some(by_number) = offer(bytes, request, number).unwrap() {
+                assert_eq!(offers.next(), Some(by_number));
+                number += 1;
+            }
+            // Past the list for good.
+            assert_eq!(offers.next(), None);
+            assert_eq!(offers.next(), None);
+            assert_eq!(offers.nth(3), None);
+            assert_eq!(job.offer(request, number), Ok(None));
+            assert_eq!(job.offer(request, u32::MAX), Ok(None));
+            offered += number;
+        }
+    }
+    assert!(offered > 1000, "only {offered} offers");
+}
+
+/// The plain steps of an iterator, without its own `nth`.
+fn stepped(offers: &mut impl Iterator<Item = Offer>, n: usize) -> Option<Offer> {
+    for _ in 0..n {
+        offers.next()?;
+    }
+    offers.next()
+}
+
+#[test]
+fn nth_gives_what_steps_give() {
+    let list = list();
+    let mut random = common::Random(7);
+    for bytes in common::jobs(&list) {
+        let Ok(job) = Job::new(bytes) else { continue };
+        for request in 0..job.requests().min(4) {
+            let mut jumping = job.offers(request).unwrap();
+            let mut stepping = jumping.clone();
+            for _ in 0..4 {
+                let n = random.below(4);
+                assert_eq!(jumping.nth(n), stepped(&mut stepping, n));
+            }
+            assert_eq!(jumping.nth(usize::MAX), None);
+            assert_eq!(jumping.next(), None);
+        }
+    }
+}
+
+#[test]
+fn the_request_count_is_the_library_s() {
+    let list = list();
+    for bytes in common::jobs(&list) {
+        let Ok(job) = Job::new(bytes) else { continue };
+        let found = (0..).find(|request| offer(bytes, *request, u32::MAX).is_err());
+        assert_eq!(Some(job.requests()), found);
+        let refused = job.offers(job.requests()).unwrap_err();
+        assert_eq!(refused.refusal(), Refusal::NoSuchRequest);
+        assert_eq!(refused.position(), None);
+        assert_eq!(job.offers(u32::MAX).unwrap_err(), refused);
+    }
+}
+
+#[test]
+fn both_calls_refuse_alike_and_write_nothing() {
+    let list = list();
+    let mut refusals = 0;
+    for bytes in common::jobs(&list) {
+        let Err(refused) = check(bytes) else { continue };
+        let mut out = [0xa5; 40];
+        assert_eq!(offer_bytes(bytes, 0, 0, &mut out), Err(refused));
+        assert_eq!(out, [0xa5; 40]);
+        assert_eq!(Job::new(bytes), Err(refused));
+        refusals += 1;
+    }
+    assert!(refusals > 100, "only {refusals} refusals");
+}

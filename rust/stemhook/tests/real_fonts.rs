@@ -1,0 +1,313 @@
+//! The whole way on real fonts: files of Debian's packages, job, offers.
+//!
+//! `tools/install-fonts` installs them. Where they are not there, each test
+//! says that it is skipped; with STEMHOOK_SKIP_NOTHING set it fails.
+//! STEMHOOK_FONTS names the folder of fonts, if it is not Debian's.
+
+mod common;
+// Its `main` is not called here.
+#[allow(dead_code)]
+#[path = "../examples/pick.rs"]
+mod pick;
+
+use std::{
+    env,
+    ffi::OsString,
+    fs,
+    path::{Path, PathBuf},
+};
+
+use stemhook::{Angle, Attributes, Job, JobBuilder, Offer, Request, Style, Tag};
+
+const DEJAVU: &str = "truetype/dejavu";
+const CANTARELL: &str = "opentype/cantarell";
+const INTER: &str = "truetype/inter-vf";
+
+/// DejaVu Sans: nine faces of two widths, two styles and three weights.
+const SANS: [&str; 9] = [
+    "truetype/dejavu/DejaVuSans.ttf",
+    "truetype/dejavu/DejaVuSans-Bold.ttf",
+    "truetype/dejavu/DejaVuSans-Oblique.ttf",
+    "truetype/dejavu/DejaVuSans-BoldOblique.ttf",
+    "truetype/dejavu/DejaVuSans-ExtraLight.ttf",
+    "truetype/dejavu/DejaVuSansCondensed.ttf",
+    "truetype/dejavu/DejaVuSansCondensed-Bold.ttf",
+    "truetype/dejavu/DejaVuSansCondensed-Oblique.ttf",
+    "truetype/dejavu/DejaVuSansCondensed-BoldOblique.ttf",
+];
+
+/// Cantarell: five weights.
+const LIGHT_TO_BOLD: [&str; 5] = [
+    "opentype/cantarell/Cantarell-Thin.otf",
+    "opentype/cantarell/Cantarell-Light.otf",
+    "opentype/cantarell/Cantarell-Regular.otf",
+    "opentype/cantarell/Cantarell-Bold.otf",
+    "opentype/cantarell/Cantarell-ExtraBold.otf",
+];
+
+/// Inter: one face with the axes `wght` and `slnt`.
+const SLANTING: [&str; 1] = ["truetype/inter-vf/Inter.var.ttf"];
+
+/// Inter: an upright and an italic face, each with the axis `wght`.
+const ROMAN_AND_ITALIC: [&str; 2] = [
+    "truetype/inter-vf/Inter-roman.var.ttf",
+    "truetype/inter-vf/Inter-italic.var.ttf",
+];
+
+/// The folder of fonts, if every file that is used here is in it; else the
+/// test is skipped.
+fn folder(test: &str) -> Option<PathBuf> {
+    let folder = env::var_os("STEMHOOK_FONTS").unwrap_or_else(|| "/usr/share/fonts".into());
+    let folder = PathBuf::from(folder);
+    let used = [&SANS[..], &LIGHT_TO_BOLD, &SLANTING, &ROMAN_AND_ITALIC];
+    let missing = used
+        .concat()
+        .into_iter()
+        .find(|file| !folder.join(file).is_file());
+    if let Some(file) = missing {
+        let file = folder.join(file);
+        let lack = format!("{} is not there: run tools/install-fonts", file.display());
+        common::skip(test, &lack);
+        return None;
+    }
+    Some(folder)
+}
+
+fn font(folder: &Path, file: &str) -> Vec<u8> {
+    fs::read(folder.join(file)).unwrap_or_else(|error| panic!("{file}: {error}"))
+}
+
+/// A job of families of files, with one request: for the first families and,
+/// as a fallback, the last, if there are more.
+fn job(folder: &Path, families: &[&[&str]], attributes: Attributes) -> Job<'static> {
+    let mut builder = JobBuilder::new();
+    let mut numbers = Vec::new();
+    for files in families {
+        let faces: Vec<u16> = files
+            .iter()
+            .map(|file| builder.face(&font(folder, file), true).unwrap())
+            .collect();
+        numbers.push(builder.family(&faces).unwrap());
+    }
+    let fallbacks = numbers.split_off(1);
+    let request = Request {
+        most: 8,
+        attributes,
+        families: numbers,
+        fallbacks,
+    };
+    builder.request(&request).unwrap();
+    builder.build().unwrap()
+}
+
+fn offers(folder: &Path, families: &[&[&str]], attributes: Attributes) -> Vec<Offer> {
+    job(folder, families, attributes)
+        .offers(0)
+        .unwrap()
+        .collect()
+}
+
+/// The first offer of a family, and its file.
+fn first<'a>(folder: &Path, files: &[&'a str], attributes: Attributes) -> (Offer, &'a str) {
+    let offer = offers(folder, &[files], attributes)[0];
+    (offer, files[usize::from(offer.place)])
+}
+
+fn attributes(width: f32, style: Style, weight: f32) -> Attributes {
+    Attributes {
+        width,
+        style,
+        weight,
+    }
+}
+
+/// Whether the offer asks for nothing to be done to its face.
+fn as_it_is(offer: &Offer) -> bool {
+    !offer.embolden && offer.skew == 0 && offer.settings.is_empty()
+}
+
+/// Whether a font has a table, by its directory.
+fn has_table(font: &[u8], tag: &[u8; 4]) -> bool {
+    let count = usize::from(u16::from_be_bytes([font[4], font[5]]));
+    font[12..].chunks(16).take(count).any(|r| &r[..4] == tag)
+}
+
+#[test]
+fn static_and_variable_fonts_are_such() {
+    let Some(folder) = folder("static_and_variable_fonts_are_such") else {
+        return;
+    };
+    for file in SANS.iter().chain(&LIGHT_TO_BOLD) {
+        assert!(!has_table(&font(&folder, file), b"fvar"), "{file}");
+    }
+    for file in SLANTING.iter().chain(&ROMAN_AND_ITALIC) {
+        assert!(has_table(&font(&folder, file), b"fvar"), "{file}");
+    }
+}
+
+#[test]
+fn a_static_family_offers_the_face_asked_for() {
+    let Some(folder) = folder("a_static_family_offers_the_face_asked_for") else {
+        return;
+    };
+    let (normal, italic) = (Style::Normal, Style::Italic);
+    for (asked, expected) in [
+        (attributes(1.0, normal, 400.0), "DejaVuSans.ttf"),
+        (attributes(1.0, normal, 700.0), "DejaVuSans-Bold.ttf"),
+        (attributes(1.0, normal, 200.0), "DejaVuSans-ExtraLight.ttf"),
+        (attributes(1.0, italic, 400.0), "DejaVuSans-Oblique.ttf"),
+        (attributes(1.0, italic, 700.0), "DejaVuSans-BoldOblique.ttf"),
+        (attributes(0.875, normal, 400.0), "DejaVuSansCondensed.ttf"),
+        (
+            attributes(0.875, italic, 700.0),
+            "DejaVuSansCondensed-BoldOblique.ttf",
+        ),
+    ] {
+        let (offer, file) = first(&folder, &SANS, asked);
+        assert_eq!(file, format!("{DEJAVU}/{expected}"), "{asked:?}");
+        assert!(as_it_is(&offer), "{asked:?}");
+    }
+}
+
+#[test]
+fn the_default_comes_after_the_choice() {
+    let Some(folder) = folder("the_default_comes_after_the_choice") else {
+        return;
+    };
+    let bold = attributes(1.0, Style::Normal, 700.0);
+    let offers = offers(&folder, &[&SANS], bold);
+    assert_eq!(offers.len(), 2);
+    assert_eq!((offers[0].place, offers[0].embolden), (1, false));
+    assert_eq!((offers[1].place, offers[1].embolden), (0, true));
+}
+
+#[test]
+fn weights_in_between_go_to_the_nearest_on_their_side() {
+    let Some(folder) = folder("weights_in_between_go_to_the_nearest_on_their_side") else {
+        return;
+    };
+    for (weight, expected) in [
+        (50.0, "Thin"),
+        (250.0, "Thin"),
+        (350.0, "Light"),
+        (450.0, "Regular"),
+        (501.0, "Bold"),
+        (750.0, "ExtraBold"),
+        (1000.0, "ExtraBold"),
+    ] {
+        let asked = attributes(1.0, Style::Normal, weight);
+        let (offer, file) = first(&folder, &LIGHT_TO_BOLD, asked);
+        assert_eq!(file, format!("{CANTARELL}/Cantarell-{expected}.otf"));
+        assert!(as_it_is(&offer));
+    }
+}
+
+#[test]
+fn a_variable_family_is_set_to_the_weight_asked_for() {
+    let Some(folder) = folder("a_variable_family_is_set_to_the_weight_asked_for") else {
+        return;
+    };
+    let asked = attributes(1.0, Style::Normal, 650.0);
+    let (offer, _) = first(&folder, &SLANTING, asked);
+    assert_eq!(offer.settings.len(), 1);
+    assert_eq!(offer.settings[0].tag, Tag::WGHT);
+    assert_eq!(offer.settings[0].value.to_bits(), 650.0_f32.to_bits());
+    assert!(!offer.embolden && offer.skew == 0);
+
+    // Its own weight needs no setting.
+    let (offer, _) = first(&folder, &SLANTING, Attributes::default());
+    assert!(as_it_is(&offer));
+}
+
+#[test]
+fn a_slant_axis_stands_in_for_italic_and_oblique() {
+    let Some(folder) = folder("a_slant_axis_stands_in_for_italic_and_oblique") else {
+        return;
+    };
+    let slant = |style: Style| {
+        let (offer, _) = first(&folder, &SLANTING, attributes(1.0, style, 800.0));
+        assert_eq!(offer.skew, 0);
+        assert_eq!(offer.settings.value(Tag::WGHT), Some(800.0));
+        offer.settings.value(Tag::SLNT)
+    };
+    assert_eq!(slant(Style::Italic), Some(14.0));
+    assert_eq!(slant(Style::Oblique(Angle::Unstated)), Some(14.0));
+    assert_eq!(slant(Style::Oblique(Angle::Degrees(9.5))), Some(9.5));
+    assert_eq!(slant(Style::Normal), None);
+}
+
+#[test]
+fn an_italic_face_is_chosen_and_varied_in_weight() {
+    let Some(folder) = folder("an_italic_face_is_chosen_and_varied_in_weight") else {
+        return;
+    };
+    let asked = attributes(1.0, Style::Italic, 550.0);
+    let (offer, file) = first(&folder, &ROMAN_AND_ITALIC, asked);
+    assert_eq!(file, format!("{INTER}/Inter-italic.var.ttf"));
+    assert_eq!(offer.settings.value(Tag::WGHT), Some(550.0));
+    assert_eq!((offer.settings.len(), offer.skew), (1, 0));
+}
+
+#[test]
+fn fallbacks_come_last() {
+    let Some(folder) = folder("fallbacks_come_last") else {
+        return;
+    };
+    let asked = attributes(1.0, Style::Normal, 700.0);
+    let families: [&[&str]; 3] = [&LIGHT_TO_BOLD, &SLANTING, &SANS];
+    let offers = offers(&folder, &families, asked);
+    let places: Vec<(u16, u16)> = offers.iter().map(|o| (o.family, o.place)).collect();
+    assert_eq!(places, [(0, 3), (0, 2), (1, 0), (2, 1), (2, 0)]);
+}
+
+#[test]
+fn every_file_of_the_packages_is_read_and_offered() {
+    let Some(folder) = folder("every_file_of_the_packages_is_read_and_offered") else {
+        return;
+    };
+    let mut count = 0;
+    for place in [DEJAVU, CANTARELL, INTER] {
+        for entry in fs::read_dir(folder.join(place)).unwrap() {
+            let path = entry.unwrap().path();
+            if !path.extension().is_some_and(|e| e == "ttf" || e == "otf") {
+                continue;
+            }
+            let file = path.to_str().unwrap();
+            let offers = offers(&folder, &[&[file]], Attributes::default());
+            assert_eq!(offers.len(), 1, "{file}");
+            // The subtable that is pointed at has a format of OpenType that maps
+            // characters one by one.
+            let font = font(&folder, file);
+            let at = offers[0].charmap.offset as usize;
+            let format = u16::from_be_bytes([font[at], font[at + 1]]);
+            assert!([4, 12].contains(&format), "{file}: format {format}");
+            count += 1;
+        }
+    }
+    assert!(count >= 17, "only {count} files");
+}
+
+#[test]
+fn the_example_program_prints_the_files_that_are_offered() {
+    let Some(folder) = folder("the_example_program_prints_the_files_that_are_offered") else {
+        return;
+    };
+    let path = |file: &str| folder.join(file).display().to_string();
+    let mut arguments: Vec<String> = ["--weight", "650", "--style", "oblique:12"]
+        .map(String::from)
+        .to_vec();
+    arguments.push(path(SLANTING[0]));
+    arguments.push("--fallback".into());
+    arguments.extend([SANS[0], SANS[1]].map(path));
+    let mut out = Vec::new();
+    pick::run(arguments.into_iter().map(OsString::from), &mut out).unwrap();
+    let expected = format!(
+        "{}: family 0, place 0, wght=650, slnt=12\n\
+         {}: family 1, place 1, skew 12\n\
+         {}: family 1, place 0, embolden, skew 12\n",
+        path(SLANTING[0]),
+        path(SANS[1]),
+        path(SANS[0]),
+    );
+    assert_eq!(String::from_utf8(out).unwrap(), expected);
+}

@@ -1,0 +1,244 @@
+//! Each refusal of the table, through the calls over any bytes.
+
+mod common;
+
+use common::fonts;
+use stemhook::{Refusal, check, offer, offer_bytes};
+
+/// A job with one face of a font, and what comes after it.
+fn with_font(font: &[u8], after: &[u8]) -> Vec<u8> {
+    let mut job = vec![0, 1, 1];
+    job.extend((font.len() as u32).to_be_bytes());
+    job.extend(font);
+    job.extend(after);
+    job
+}
+
+/// A request for the default attributes and family 0, at most 8 offers.
+const REQUEST: [u8; 19] = [
+    0, 8, 0x3f, 0x80, 0, 0, 0, 0, 0, 0, 0, 0x43, 0xc8, 0, 0, 1, 0, 0, 0,
+];
+
+/// A job with one face, one family and one request.
+fn accepted() -> Vec<u8> {
+    let mut after = vec![0, 0, 0, 1, 0, 1, 0, 0, 0, 1];
+    after.extend(REQUEST);
+    with_font(&fonts::weight(400), &after)
+}
+
+/// Both calls refuse the job so.
+fn refused(job: &[u8], refusal: Refusal, position: Option<usize>) {
+    let of_check = check(job).expect_err("the job is to be refused");
+    assert_eq!(of_check.refusal(), refusal);
+    assert_eq!(of_check.position(), position.map(|at| at as u32));
+    let mut out = [0x5a; 40];
+    assert_eq!(offer_bytes(job, 0, 0, &mut out), Err(of_check));
+    assert_eq!(out, [0x5a; 40]);
+    assert_eq!(offer(job, u32::MAX, u32::MAX), Err(of_check));
+}
+
+#[test]
+fn an_accepted_job() {
+    let job = accepted();
+    assert_eq!(check(&job), Ok(()));
+    let first = offer(&job, 0, 0).unwrap().unwrap();
+    assert_eq!((first.family, first.place), (0, 0));
+    assert!(first.settings.is_empty() && !first.embolden && first.skew == 0);
+    assert_eq!(offer(&job, 0, 1), Ok(None));
+    assert_eq!(check(&[0; 8]), Ok(()));
+}
+
+#[test]
+fn output_of_any_other_length_is_16() {
+    let job = accepted();
+    for length in (0..100).chain([4096]) {
+        let mut out = vec![0x5a; length];
+        let answer = offer_bytes(&job, 0, 0, &mut out);
+        if length == 40 {
+            assert_eq!(answer, Ok(true));
+            assert_ne!(out, vec![0x5a; 40]);
+            continue;
+        }
+        let error = answer.unwrap_err();
+        assert_eq!(error.refusal(), Refusal::OutputLength);
+        assert_eq!(error.position(), None);
+        assert_eq!(out, vec![0x5a; length]);
+    }
+    // Before anything of the job.
+    let error = offer_bytes(&[], 0, 0, &mut [0; 41]).unwrap_err();
+    assert_eq!(error.refusal(), Refusal::OutputLength);
+}
+
+#[test]
+fn a_job_over_its_most_bytes_is_17() {
+    let job = vec![0; 16_777_217];
+    refused(&job, Refusal::JobLength, None);
+    // One byte less is read.
+    refused(&job[1..], Refusal::BytesLeft, Some(8));
+}
+
+#[test]
+fn a_cut_job_is_18() {
+    let job = accepted();
+    for length in 0..job.len() {
+        let error = check(&job[..length]).unwrap_err();
+        assert_eq!(error.refusal(), Refusal::PastEnd, "cut to {length}");
+        assert!(error.position().unwrap() as usize <= length);
+    }
+    refused(&[], Refusal::PastEnd, Some(0));
+    refused(
+        &with_font(&fonts::weight(400), &[0]),
+        Refusal::PastEnd,
+        Some(7 + 136),
+    );
+}
+
+#[test]
+fn counts_over_their_limits_are_19() {
+    refused(&[1, 1], Refusal::CountOverLimit, Some(0));
+    refused(&[0, 0, 1, 1], Refusal::CountOverLimit, Some(2));
+    refused(&[0, 0, 0, 0, 0, 65], Refusal::CountOverLimit, Some(4));
+    refused(&[0, 0, 0, 0, 0, 1, 0, 65], Refusal::CountOverLimit, Some(6));
+    refused(&[0, 0, 0, 0, 0, 0, 1, 1], Refusal::CountOverLimit, Some(6));
+}
+
+#[test]
+fn a_held_byte_of_2_is_20() {
+    let mut job = accepted();
+    job[2] = 2;
+    refused(&job, Refusal::HeldByte, Some(2));
+}
+
+#[test]
+fn fonts_are_refused_at_their_length_field() {
+    let after = [0; 6];
+    let bad_start = fonts::file(*b"ttcf", &[(*b"cmap", fonts::cmap(3, 1))]);
+    refused(
+        &with_font(&bad_start, &after),
+        Refusal::FontDirectory,
+        Some(3),
+    );
+    refused(
+        &with_font(&bad_start[..3], &after),
+        Refusal::FontDirectory,
+        Some(3),
+    );
+    let unmapped = fonts::file(*b"OTTO", &[(*b"OS/2", fonts::os2(400, 5, 0))]);
+    refused(&with_font(&unmapped, &after), Refusal::NoCharmap, Some(3));
+    let axis = (*b"wght", 100, 400, 900);
+    assert_eq!(
+        check(&with_font(&fonts::variable(&[axis; 16]), &after)),
+        Ok(())
+    );
+    let axes = fonts::variable(&[axis; 17]);
+    refused(&with_font(&axes, &after), Refusal::TooManyAxes, Some(3));
+}
+
+#[test]
+fn unknown_face_numbers_are_24() {
+    // A family of face 0, without faces.
+    refused(
+        &[0, 0, 0, 0, 0, 1, 0, 1, 0, 0],
+        Refusal::NoSuchFace,
+        Some(8),
+    );
+    // An override of it.
+    refused(&[0, 0, 0, 1, 0, 0], Refusal::NoSuchFace, Some(4));
+}
+
+#[test]
+fn unknown_masks_and_spare_fields_are_25() {
+    let font = fonts::weight(400);
+    let at = 7 + font.len() + 2;
+    // Face 0, mask, ratio, style, weight, no pairs; no family, no request.
+    let job = |entry: [u8; 17]| {
+        let mut after = vec![0, 1];
+        after.extend(entry);
+        after.extend([0; 4]);
+        with_font(&font, &after)
+    };
+    assert_eq!(check(&job([0; 17])), Ok(()));
+    let changed = |field: usize, byte: u8| {
+        let mut entry = [0; 17];
+        entry[field] = byte;
+        job(entry)
+    };
+    refused(&changed(2, 8), Refusal::UnknownOrSpare, Some(at + 2));
+    refused(&changed(6, 1), Refusal::UnknownOrSpare, Some(at + 3));
+    refused(&changed(7, 1), Refusal::UnknownOrSpare, Some(at + 7));
+    refused(&changed(8, 0x80), Refusal::UnknownOrSpare, Some(at + 8));
+    refused(&changed(15, 1), Refusal::UnknownOrSpare, Some(at + 12));
+    // A style kind of a request.
+    let mut job = accepted();
+    let kind = job.len() - REQUEST.len() + 6;
+    job[kind] = 4;
+    refused(&job, Refusal::UnknownOrSpare, Some(kind));
+}
+
+#[test]
+fn numbers_outside_are_26() {
+    let job = accepted();
+    let request = job.len() - REQUEST.len();
+    let with = |at: usize, number: f32| {
+        let mut job = job.clone();
+        job[at..at + 4].copy_from_slice(&number.to_be_bytes());
+        job
+    };
+    let (ratio, weight) = (request + 2, request + 11);
+    for accepted in [0.0, -0.0, 16.0] {
+        assert_eq!(check(&with(ratio, accepted)), Ok(()));
+    }
+    for number in [
+        f32::NAN,
+        f32::INFINITY,
+        -1.0,
+        16.0_f32.next_up(),
+        0.0_f32.next_down(),
+    ] {
+        refused(&with(ratio, number), Refusal::NumberOutside, Some(ratio));
+    }
+    for accepted in [-1e30, f32::MAX, 0.0] {
+        assert_eq!(check(&with(weight, accepted)), Ok(()));
+    }
+    for number in [f32::NAN, f32::INFINITY, f32::NEG_INFINITY] {
+        refused(&with(weight, number), Refusal::NumberOutside, Some(weight));
+    }
+}
+
+#[test]
+fn bytes_left_are_27() {
+    refused(&[0; 9], Refusal::BytesLeft, Some(8));
+    let mut job = accepted();
+    let end = job.len();
+    job.push(0);
+    refused(&job, Refusal::BytesLeft, Some(end));
+}
+
+#[test]
+fn an_unknown_request_is_28() {
+    let job = accepted();
+    for request in [1, 2, 256, 65_536, u32::MAX] {
+        for number in [0, 1, u32::MAX] {
+            let error = offer(&job, request, number).unwrap_err();
+            assert_eq!(error.refusal(), Refusal::NoSuchRequest);
+            assert_eq!(error.position(), None);
+        }
+    }
+}
+
+#[test]
+fn numbers_and_refusals_go_together() {
+    let numbers: Vec<u32> = Refusal::TABLE
+        .iter()
+        .map(|refusal| refusal.number())
+        .collect();
+    assert_eq!(numbers, (16..=29).collect::<Vec<u32>>());
+    for refusal in Refusal::TABLE {
+        assert_eq!(Refusal::from_number(refusal.number()), refusal);
+        assert!(!refusal.meaning().is_empty());
+    }
+    for number in [0, 1, 15, 30, 255, u32::MAX] {
+        assert_eq!(Refusal::from_number(number), Refusal::Unknown(number));
+        assert_eq!(Refusal::Unknown(number).number(), number);
+    }
+}
