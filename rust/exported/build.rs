@@ -26,7 +26,7 @@ fn main() {
 
 fn missing(why: &str) -> ! {
     println!(
-        "cargo::error=the static library of the proved code is not there: {why}; run `rt staticlib query` in the repository's root, or set STEMHOOK_LIB to the file"
+        "cargo::error=the static library of the proved code is not there: {why}; run tools/static-library in the repository's root, or set STEMHOOK_LIB to the file"
     );
     process::exit(0);
 }
