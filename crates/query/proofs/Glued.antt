@@ -20,7 +20,7 @@ use Rattle.query.specs.Entries as Entry
 use Rattle.query.specs.Job.{Job, atEnd, readSections, readJob}
 use Rattle.query.specs.Offers.{Faces, Families, facesOf, groupOf, familyOffers, offerOf, numberOffers, inTurn, offers, membersAt, familiesAt, listAt, fallbacksAt, Small}
 use Rattle.query.specs.Sheet.{fontOf, heldOf, membersOf, familiesOf, offersOf}
-use Rattle.query.specs.Located.{placeOf, afterFamily, familyPlace, overridesPlace, familiesPlace, requestsPlace, familyAt, FamilyKnown, afterRequest, requestPlace, requestedAt, RequestedKnown, requestAt}
+use Rattle.query.specs.Located.{placeOf, afterFamily, familyPlace, overridesPlace, familiesPlace, requestsPlace, familyAt, FamilyKnown, afterRequest, requestPlace, requestedAt, requestAt}
 use Rattle.query.specs.Found.{SameFaces}
 use Rattle.query.proofs.Ends.{then-got}
 use Rattle.query.proofs.Leaves.{counted-length, count-read}
@@ -160,20 +160,17 @@ module _ (s : List ℕ) (j : Job) (e : ℕ) (l : Laid s j e) where
   members-are f b =
       ap (λ (x : Family). x .members) (of-families .entries .each f (record { members = [] }) (omega (arith, families-count)))
 
-  -- what `request_at` and `requested` ask
+  -- what `request_at` asks
   pub requests-count : length (j .requests) ≡ u16At s (requestsPlace s)
   requests-count = of-requests .count
 
   pub request-is : (k : ℕ) (d : Entry.Request) → k < length (j .requests) → getD (j .requests) k d ≡ requestAt s (requestPlace s (requestsPlace s + 2) k)
   request-is k d b = of-requests .entries .each k d (omega (arith, requests-count))
 
-  pub request-known : (k : ℕ) → k < length (j .requests) → RequestedKnown s (requestPlace s (requestsPlace s + 2) k + 2)
-  request-known k b = of-requests .entries .known k (omega (arith, requests-count)) .1
-
   -- what `request_offer` asks
   pub request-inside : (k : ℕ) → k < length (j .requests)
       → (requestPlace s (requestsPlace s + 2) k + 15 < length s) × (fallbacksAt s (requestPlace s (requestsPlace s + 2) k + 15) < length s)
-  request-inside k b = request-in s (requestPlace s (requestsPlace s + 2) k) (of-requests .entries .known k (omega (arith, requests-count)) .0)
+  request-inside k b = request-in s (requestPlace s (requestsPlace s + 2) k) (of-requests .entries .known k (omega (arith, requests-count)))
 
   module _ (positions : List ℕ) (loaded : Loaded s (familiesPlace s + 2) (length (j .families)) positions) where
     pub small : Small s positions (length (j .families))

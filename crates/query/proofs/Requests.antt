@@ -16,7 +16,7 @@ use Rattle.query.specs.Located.{familyPlace, overridesPlace, familiesPla
 use Rattle.query.specs.Found.{placesOf, Placed, Inside, Lies}
 use Rattle.query.specs.Call.{withoutOffer, answerCall}
 use Rattle.query.proofs.Called.{accepted-job, no-request}
-use Rattle.query.proofs.Glued.{Laid, laid, families-count, families-few, families-end, families-inside, families-start, requests-count, requests-start, request-known, request-inside}
+use Rattle.query.proofs.Glued.{Laid, laid, families-count, families-few, families-end, families-inside, families-start, requests-count, requests-start, request-inside}
 
 -- ---- what the walk answers
 
@@ -105,9 +105,4 @@ module _ (s : List ℕ) (accepted : checkJob s .refusal ≡ 0) where
             lists = rw at-is (request-inside s (the .0) (the .1) lay k within)
 
             pub inside : Inside s at
-            inside =
-                record {
-                  known = rw at-is (request-known s (the .0) (the .1) lay k within);
-                  lists = lists .0;
-                  fallbacks = lists .1;
-                }
+            inside = record { lists = lists .0; fallbacks = lists .1 }

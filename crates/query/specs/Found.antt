@@ -17,7 +17,7 @@ use Rattle.query.specs.Reader.{ended, got}
 use Rattle.query.specs.Job.{Job, readSections, readJob, checkJob}
 use Rattle.query.specs.Offers.{Faces, facesOf, offerAt, fallbacksAt}
 use Rattle.query.specs.Sheet.{fontOf, heldOf, membersOf, offersOf, faceOfOffer}
-use Rattle.query.specs.Located.{familyPlace, overridesPlace, familiesPlace, requestsPlace, requestPlace, RequestedKnown}
+use Rattle.query.specs.Located.{familyPlace, overridesPlace, familiesPlace, requestsPlace, requestPlace}
 use Rattle.query.specs.Call.{requestOfJob, answerCall}
 
 -- ---- the walk through a job
@@ -46,7 +46,6 @@ pub record Placed (s : List ℕ) (section : ℕ) (positions : List ℕ) : Type 0
 
 -- a request lies whole in the job
 pub record Inside (s : List ℕ) (at : ℕ) : Type 0 where
-  pub known : RequestedKnown s (at + 2)
   pub lists : at + 15 < length s
   pub fallbacks : fallbacksAt s (at + 15) < length s
 
