@@ -27,7 +27,7 @@ use Rattle.query.specs.Located.{placeOf, numberAt, styleAt}
 use Rattle.query.specs.Load.{runOf, faceAt, faceEnd, givenAt, pairAt, pairEnd, overrideAt, overrideEnd}
 use Rattle.query.proofs.Ends.{then-got}
 use Rattle.query.proofs.Leaves.{byte-read, word-read, ratio-read, value-read, held-read, face-number-read, mask-read, kind-read, spare-byte-read, spare-word-read}
-use Rattle.query.proofs.Singles.{ratio-finite}
+use Rattle.query.proofs.Singles.{accepted-finite}
 use Rattle.query.proofs.Loads.{number-is}
 use Rattle.query.proofs.Ordered.{many-run}
 
@@ -108,17 +108,10 @@ face-taken s p f q e =
 number-laid : (s : List ℕ) (p : ℕ) (x : Float) → x ≡ ofBits binary32 (u32At s p) → finite x ≡ true → x ≡ numberAt s p
 number-laid s p x e f = e ∙ number-is s p (u32At s p) refl (rw e at f)
 
-ratio-has : (x : Float) → acceptedRatio x ≡ true → finite x ≡ true
-ratio-has x a = go (finite x) refl
-  where
-    go : (b : Bool) → finite x ≡ b → b ≡ true
-    go true e = refl
-    go false e = ratio-finite x e ∙ a
-
 pub ratio-laid : (s : List ℕ) (p : ℕ) (x : Float) (q : ℕ) → ratio s p ≡ got x q → (x ≡ numberAt s p) × (q ≡ p + 4)
 ratio-laid s p x q e =
     let r = ratio-read s p x q e in
-    (number-laid s p x (r .value) (ratio-has x (r .passed)), r .next)
+    (number-laid s p x (r .value) (accepted-finite x (r .passed)), r .next)
 
 pub value-laid : (s : List ℕ) (p : ℕ) (x : Float) (q : ℕ) → value s p ≡ got x q → (x ≡ numberAt s p) × (q ≡ p + 4)
 value-laid s p x q e =
