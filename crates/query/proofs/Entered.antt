@@ -1,17 +1,17 @@
 -- What was read of a job's families and requests, by position: each entry, the position after it, and what is known of its numbers.
 use Prim.Native.Nat.{ℕ, zero, suc, _+_, _*_, _≤_, _<_}
-use mathlib.Core.Path.{_≡_, refl, sym, ap, _∙_}
+use mathlib.Core.Path.{_≡_, sym, ap, _∙_}
 use mathlib.Core.Bool.{Bool, true}
-use mathlib.Core.List.{List, [], _∷_}
+use mathlib.Core.List.{List, []}
 use native.Mathlib.Omega.{arith}
 use lib.Dec.{ltb}
-use lib.ListN.{length, getD}
+use lib.ListN.{length}
 use lib.Seq.{ext-getD}
 use borrow.Author.Tests.{leb-true, ltb-true}
 use Rattle.font.specs.Tables.{u16At}
 use Rattle.font.specs.Attributes.{attributesOf}
 use Rattle.font.specs.declared.attributes.Attributes.{Attributes}
-use Rattle.query.specs.Reader.{Reader, got, done, _>>=_, many}
+use Rattle.query.specs.Reader.{Reader, got, done, many}
 use Rattle.query.specs.Fields.{byte, half, ratio, value, count, counted, byteCounted, faceNumber}
 use Rattle.query.specs.Entries.{Family, Request, readStyle, readFamily, readRequested, readRequest}
 use Rattle.query.specs.Offers.{numbersAt, membersAt, listAt, fallbacksAt}

@@ -1,6 +1,6 @@
 -- From an accepted job to its offers: where its sections lie, that the loaded positions have its families and its requests, and that the
 -- offers look at no more than these and the faces of the job.
-use Prim.Native.Nat.{ℕ, zero, suc, _+_, _*_, _≤_, _<_}
+use Prim.Native.Nat.{ℕ, _+_, _*_, _≤_, _<_}
 use mathlib.Core.Path.{_≡_, refl, sym, ap, _∙_}
 use mathlib.Core.Bool.{Bool, true, false, cond}
 use mathlib.Core.List.{List, [], _∷_, _++_, map}
@@ -12,20 +12,19 @@ use Rattle.font.specs.Tables.{u16At}
 use Rattle.matching.specs.declared.order.Request.{Request}
 use Rattle.matching.specs.Order.{Face}
 use Rattle.matching.specs.Matching.{requestOf, blank}
-use Rattle.query.specs.declared.answer.Offer.{Offer}
-use Rattle.query.specs.Reader.{overlong, bytesLeft, Got, refused, got, _>>=_, ended}
+use Rattle.query.specs.Reader.{overlong, bytesLeft, Got, refused, got, ended}
 use Rattle.query.specs.Fields.{counted}
 use Rattle.query.specs.Entries.{Family, readFace, readOverride, readFamily, readRequest}
 use Rattle.query.specs.Entries as Entry
 use Rattle.query.specs.Job.{Job, atEnd, readSections, readJob}
 use Rattle.query.specs.Offers.{Faces, Families, facesOf, groupOf, familyOffers, offerOf, numberOffers, inTurn, offers, membersAt, familiesAt, listAt, fallbacksAt, Small}
 use Rattle.query.specs.Sheet.{fontOf, heldOf, membersOf, familiesOf, offersOf}
-use Rattle.query.specs.Located.{placeOf, afterFamily, familyPlace, overridesPlace, familiesPlace, requestsPlace, familyAt, FamilyKnown, afterRequest, requestPlace, requestedAt, requestAt}
+use Rattle.query.specs.Located.{afterFamily, familyPlace, overridesPlace, familiesPlace, requestsPlace, familyAt, FamilyKnown, afterRequest, requestPlace, requestedAt, requestAt}
 use Rattle.query.specs.Found.{SameFaces}
 use Rattle.query.proofs.Ends.{then-got}
-use Rattle.query.proofs.Leaves.{counted-length, count-read}
+use Rattle.query.proofs.Leaves.{counted-length}
 use Rattle.query.proofs.Gathered.{numbers-length, number-at}
-use Rattle.query.proofs.Runs.{Run, run-in, grows, request-grows, request-in, place-first}
+use Rattle.query.proofs.Runs.{run-in, request-in}
 use Rattle.query.proofs.Entered.{FamilyIn, RequestIn, Section, families-read, requests-read, count-few}
 
 -- ---- where the sections lie

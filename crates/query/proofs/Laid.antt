@@ -16,7 +16,6 @@ use Rattle.font.specs.declared.overrides.FontInfoOverride.{FontInfoOverride}
 use Rattle.font.specs.declared.overrides.WidthOverride.the-variants as Width
 use Rattle.font.specs.declared.overrides.StyleOverride.the-variants as Style
 use Rattle.font.specs.declared.overrides.WeightOverride.the-variants as Weight
-use Rattle.font.specs.Single.{acceptedRatio}
 use Rattle.font.specs.Tables.{u32At}
 use Rattle.font.specs.Reading.{bit}
 use Rattle.font.specs.Font.{fromFontRef}

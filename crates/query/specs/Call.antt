@@ -1,6 +1,6 @@
 -- Section 6: the offer call: "job, request, offer number, 40-byte output".
 use Prim.Native.Nat.{ℕ}
-use mathlib.Core.Bool.{Bool, true, false, cond}
+use mathlib.Core.Bool.{false, cond}
 use mathlib.Core.List.{List, []}
 use mathlib.Core.Path.{_≡_}
 use lib.Dec.{ltb, eqb}

@@ -1,12 +1,11 @@
 -- Section 6 by position: what the steps of an offer call hand on, from the walk through the job to the offer and its face.
 use Prim.Native.Nat.{ℕ, _+_, _<_}
 use mathlib.Core.Path.{_≡_}
-use mathlib.Core.Bool.{Bool, cond}
+use mathlib.Core.Bool.{cond}
 use mathlib.Core.List.{List}
 use lib.Dec.{eqb}
 use lib.ListN.{length, getD}
 use Rattle.font.specs.Tables.{u16At}
-use Rattle.font.specs.declared.attributes.Attributes.{Attributes}
 use Rattle.font.specs.declared.font.FontInfo.{FontInfo}
 use Rattle.query.specs.declared.job.Places.{Places}
 use Rattle.query.specs.declared.answer.Offer.{Offer}

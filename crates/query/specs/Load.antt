@@ -5,23 +5,19 @@ use mathlib.Core.Bool.{Bool, false, cond}
 use mathlib.Core.List.{List, [], _∷_, map}
 use lib.ListN.{length, getD, take, drop}
 use lib.Dec.{eqb}
-use lib.Ieee.{Float, binary32, ofBits}
-use lib.Ieee.Scale.{finite}
-use Rattle.font.specs.declared.attributes.Angle.the-variants.{Unstated, Degrees}
-use Rattle.font.specs.declared.attributes.FontStyle.{FontStyle}
 use Rattle.font.specs.declared.font.AxisInfo.{AxisInfo}
 use Rattle.font.specs.declared.font.FontInfo.{FontInfo}
 use Rattle.font.specs.declared.overrides.FontInfoOverride.{FontInfoOverride}
 use Rattle.font.specs.declared.overrides.WidthOverride.the-variants as Width
 use Rattle.font.specs.declared.overrides.StyleOverride.the-variants as Style
 use Rattle.font.specs.declared.overrides.WeightOverride.the-variants as Weight
-use Rattle.font.specs.Single.{single, orderKey, wholePercent}
+use Rattle.font.specs.Single.{orderKey, wholePercent}
 use Rattle.font.specs.Tables.{u16At, u32At}
 use Rattle.font.specs.Reading.{bit}
 use Rattle.font.specs.Font.{fromFontRef}
 use Rattle.font.specs.Overrides.{setDefaults}
 use Rattle.matching.specs.Matching.{styleNumber, hasAxis, slnt}
-use Rattle.query.specs.Entries.{Face, Pair, Override, styleOfKind}
+use Rattle.query.specs.Entries.{Face, Pair, Override}
 use Rattle.query.specs.Job.{Job}
 use Rattle.query.specs.Sheet.{afterOverrides}
 use Rattle.query.specs.Located.{placeOf, overridesPlace, numberAt, styleAt}

@@ -1,16 +1,14 @@
 -- Section 6 by position: where the families and the requests of a job lie, and what stands there.
 use Prim.Native.Nat.{ℕ, zero, suc, _+_, _*_, _≤_, _<_}
-use mathlib.Core.Path.{_≡_}
 use mathlib.Core.Bool.{cond}
 use mathlib.Core.List.{List}
 use lib.Dec.{eqb}
 use lib.Ieee.{Float, binary32, ofBits}
 use lib.Ieee.Scale.{finite}
-use lib.ListN.{length, getD}
+use lib.ListN.{getD}
 use Rattle.font.specs.Single.{single}
 use Rattle.font.specs.Tables.{u16At, u32At}
 use Rattle.font.specs.Attributes.{attributesOf}
-use Rattle.font.specs.declared.attributes.Angle.{Angle}
 use Rattle.font.specs.declared.attributes.Angle.the-variants.{Unstated, Degrees}
 use Rattle.font.specs.declared.attributes.FontStyle.{FontStyle}
 use Rattle.font.specs.declared.attributes.Attributes.{Attributes}

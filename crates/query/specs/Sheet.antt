@@ -11,7 +11,7 @@ use Rattle.matching.specs.declared.synthesis.Synthesis.{Synthesis}
 use Rattle.matching.specs.Matching.{requestOf}
 use Rattle.matching.specs.Synthesis.{synthesized, variesOf}
 use Rattle.query.specs.declared.answer.Offer.{Offer}
-use Rattle.query.specs.Entries.{Face, Pair, Override, Family, Request}
+use Rattle.query.specs.Entries.{Face, Pair, Override, Request}
 use Rattle.query.specs.Job.{Job}
 use Rattle.query.specs.Offers.{Families, facesOf, offers}
 

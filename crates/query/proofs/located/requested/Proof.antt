@@ -1,6 +1,6 @@
 -- `query::located::requested` meets its contract.
 -- Assumes nothing.
-use mathlib.Core.Path.{_≡_, refl, sym, ap, _∙_}
+use mathlib.Core.Path.{_≡_, _∙_}
 use lib.Ieee.{Float}
 use Rattle.font.specs.Attributes.{attributesOf}
 use Rattle.font.specs.declared.attributes.FontStyle.{FontStyle}
