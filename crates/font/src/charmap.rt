@@ -1,7 +1,9 @@
 // The charmap index: which `cmap` subtable maps characters to glyphs.
 ghost use mathlib.Core.Path.{_≡_};
+ghost use mathlib.Core.Bool.{true};
 ghost use Prim.Native.Nat.{_+_, _*_, _^_, _≤_, _<_};
 ghost use lib.ListN.{length};
+ghost use Rattle.font.specs.Tables.{directoryFits};
 ghost use Rattle.font.specs.Charmap.{classOf, recordClass, bestClass, bestRecord, indexOf, charmapIndex};
 use crate::tables;
 use crate::tables::Table;
@@ -121,13 +123,24 @@ fn index_of(offset: usize, cmap: &[u8]) -> Charmap
     Charmap::Missing
 }
 
+// The charmap index of a font whose directory fits.
+pub(crate) fn index_in(font: &[u8]) -> Charmap
+    requires { ⌜ directoryFits (now font) ≡ true ⌝ }
+    ensures { λ r. ⌜ r ≡ charmapIndex (now (font .entry)) ⌝ }
+{
+    match tables::table_in(font, 0x636D_6170, 4) {
+        Table::Found { offset, length } => index_of(offset, &font[offset..offset + length]),
+        Table::Absent => Charmap::Missing,
+    }
+}
+
 impl CharmapIndex {
     pub fn new(font: &[u8]) -> Charmap
         ensures { λ r. ⌜ r ≡ charmapIndex (now (font .entry)) ⌝ }
     {
-        match tables::find_table(font, 0x636D_6170, 4) {
-            Table::Found { offset, length } => index_of(offset, &font[offset..offset + length]),
-            Table::Absent => Charmap::Missing,
+        if tables::directory_fits(font) {
+            return index_in(font);
         }
+        Charmap::Missing
     }
 }

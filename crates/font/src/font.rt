@@ -1,17 +1,18 @@
 // Model for a font.
 ghost use mathlib.Core.Path.{_≡_};
-ghost use mathlib.Core.Bool.{cond};
+ghost use mathlib.Core.Bool.{true, cond};
 ghost use Prim.Native.Nat.{_<_, _≤_};
 ghost use lib.Dec.{leb, eqb};
 ghost use Rattle.font.specs.First.{first};
 ghost use Rattle.font.specs.Reading.{widthOfClass, postAngle, os2Style, fromOs2Post, headStyle, headWeight, fromHead, readAttributes};
-ghost use Rattle.font.specs.Tables.{tableData};
+ghost use Rattle.font.specs.Tables.{directoryFits, tableData};
 ghost use Rattle.font.specs.Font.{fvarOf, axisCount, axisAt, axesOf, refusedFont, withIndex, fromFontRef, statesAxis};
 use crate::attributes::Angle;
 use crate::attributes::Attributes;
 use crate::attributes::FontStyle;
 use crate::attributes::FontWeight;
 use crate::attributes::FontWidth;
+use crate::charmap;
 use crate::charmap::Charmap;
 use crate::charmap::CharmapIndex;
 use crate::single;
@@ -82,6 +83,7 @@ fn post_angle(post: &[u8]) -> Angle
 
 // The `post` table is looked up for an oblique face alone.
 fn os2_style(font: &[u8], os2: &[u8]) -> FontStyle
+    requires { ⌜ directoryFits (now font) ≡ true ⌝ }
     ensures { λ r. ⌜ r ≡ os2Style (now (os2 .entry)) (tableData (now (font .entry)) 0x706F7374 32) ⌝ }
 {
     let selection = tables::u16_at(os2, 62);
@@ -89,12 +91,13 @@ fn os2_style(font: &[u8], os2: &[u8]) -> FontStyle
         return FontStyle::Italic;
     }
     if selection / 512 % 2 == 1 {
-        return FontStyle::Oblique(post_angle(tables::table_data(font, POST, 32)));
+        return FontStyle::Oblique(post_angle(tables::data_in(font, POST, 32)));
     }
     FontStyle::Normal
 }
 
 fn from_os2_post(font: &[u8], os2: &[u8]) -> Attributes
+    requires { ⌜ directoryFits (now font) ≡ true ⌝ }
     ensures { λ r. ⌜ r ≡ fromOs2Post (now (os2 .entry)) (tableData (now (font .entry)) 0x706F7374 32) ⌝ }
 {
     let width = width_from_width_class(tables::u16_at(os2, 6));
@@ -132,17 +135,28 @@ fn from_head(head: &[u8]) -> Attributes
     Attributes::new(FontWidth::NORMAL, style, weight)
 }
 
+// As `read_attributes`, of a font whose directory fits.
+fn attributes_in(font: &[u8]) -> Attributes
+    requires { ⌜ directoryFits (now font) ≡ true ⌝ }
+    ensures { λ r. ⌜ r ≡ readAttributes (now (font .entry)) ⌝ }
+{
+    let os2 = tables::data_in(font, OS2, 78);
+    if 0 < os2.len() {
+        return from_os2_post(font, os2);
+    }
+    let head = tables::data_in(font, HEAD, 54);
+    if 0 < head.len() {
+        return from_head(head);
+    }
+    Attributes::DEFAULT
+}
+
 // The attributes that the font states: OS/2's before `head`'s before the defaults.
 pub fn read_attributes(font: &[u8]) -> Attributes
     ensures { λ r. ⌜ r ≡ readAttributes (now (font .entry)) ⌝ }
 {
-    let os2 = tables::table_data(font, OS2, 78);
-    if 0 < os2.len() {
-        return from_os2_post(font, os2);
-    }
-    let head = tables::table_data(font, HEAD, 54);
-    if 0 < head.len() {
-        return from_head(head);
+    if tables::directory_fits(font) {
+        return attributes_in(font);
     }
     Attributes::DEFAULT
 }
@@ -208,7 +222,7 @@ impl FontInfo {
         ensures { λ r. ⌜ r ≡ fromFontRef (now (font .entry)) ⌝ }
     {
         if tables::directory_fits(font) {
-            match CharmapIndex::new(font) {
+            match charmap::index_in(font) {
                 Charmap::Index(index) => with_index(font, index),
                 Charmap::Missing => refused(22),
             }
@@ -229,14 +243,15 @@ fn refused(refusal: u8) -> Checked
 
 // The face of a font file whose charmap index is known.
 fn with_index(font: &[u8], index: CharmapIndex) -> Checked
+    requires { ⌜ directoryFits (now font) ≡ true ⌝ }
     ensures { λ r. ⌜ r ≡ withIndex (now (font .entry)) index ⌝ }
 {
-    let fvar = tables::table_data(font, FVAR, 16);
+    let fvar = tables::data_in(font, FVAR, 16);
     let count = axis_count(fvar);
     if 16 < count {
         return refused(23);
     }
-    let attributes = read_attributes(font);
+    let attributes = attributes_in(font);
     let axes = read_axes(fvar, count);
     Checked {
         refusal: 0,
@@ -251,9 +266,10 @@ fn with_index(font: &[u8], index: CharmapIndex) -> Checked
 
 // 23 for a font file with over 16 axes, or 0.
 fn axes_refusal(font: &[u8]) -> u8
+    requires { ⌜ directoryFits (now font) ≡ true ⌝ }
     ensures { λ r. ⌜ r ≡ cond (leb (axisCount (fvarOf (now (font .entry)))) 16) 0 23 ⌝ }
 {
-    let fvar = tables::table_data(font, FVAR, 16);
+    let fvar = tables::data_in(font, FVAR, 16);
     if 16 < axis_count(fvar) { 23 } else { 0 }
 }
 
@@ -262,7 +278,7 @@ pub fn font_refusal(font: &[u8]) -> u8
     ensures { λ r. ⌜ r ≡ fromFontRef (now (font .entry)) .refusal ⌝ }
 {
     if tables::directory_fits(font) {
-        match CharmapIndex::new(font) {
+        match charmap::index_in(font) {
             Charmap::Index(_) => axes_refusal(font),
             Charmap::Missing => 22,
         }

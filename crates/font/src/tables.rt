@@ -1,5 +1,6 @@
 // The table directory of an OpenType font, and big-endian fields.
 ghost use mathlib.Core.Path.{_≡_};
+ghost use mathlib.Core.Bool.{true};
 ghost use Prim.Native.Nat.{_<_};
 ghost use Rattle.font.specs.Tables.{u16At, u32At, startsAsFont, directoryFits, firstRecord, tableOfRecord, findTable, tableData};
 
@@ -93,25 +94,45 @@ fn table_of_record(font: &[u8], least: usize, i: usize) -> Table
     Table::Found { offset, length }
 }
 
+// The first table with the tag, if it lies in the file and has at least `least` bytes; of a font whose directory fits.
+pub(crate) fn table_in(font: &[u8], tag: u32, least: usize) -> Table
+    requires { ⌜ directoryFits (now font) ≡ true ⌝ }
+    ensures { λ r. ⌜ r ≡ findTable (now (font .entry)) tag least ⌝ }
+{
+    let i = first_record(font, tag);
+    if i < u16_at(font, 4) as usize {
+        return table_of_record(font, least, i);
+    }
+    Table::Absent
+}
+
 // The first table with the tag, if it lies in the file and has at least `least` bytes.
 pub fn find_table(font: &[u8], tag: u32, least: usize) -> Table
     ensures { λ r. ⌜ r ≡ findTable (now (font .entry)) tag least ⌝ }
 {
     if directory_fits(font) {
-        let i = first_record(font, tag);
-        if i < u16_at(font, 4) as usize {
-            return table_of_record(font, least, i);
-        }
+        return table_in(font, tag, least);
     }
     Table::Absent
+}
+
+// The found table as that part of the file and no other; an absent one is the empty part. Of a font whose directory fits.
+pub(crate) fn data_in<'a>(font: &'a [u8], tag: u32, least: usize) -> &'a [u8]
+    requires { ⌜ directoryFits (now font) ≡ true ⌝ }
+    ensures { λ r. ⌜ now r ≡ tableData (now (font .entry)) tag least ⌝ }
+{
+    match table_in(font, tag, least) {
+        Table::Found { offset, length } => &font[offset..offset + length],
+        Table::Absent => &font[0..0],
+    }
 }
 
 // The found table as that part of the file and no other; an absent one is the empty part.
 pub fn table_data<'a>(font: &'a [u8], tag: u32, least: usize) -> &'a [u8]
     ensures { λ r. ⌜ now r ≡ tableData (now (font .entry)) tag least ⌝ }
 {
-    match find_table(font, tag, least) {
-        Table::Found { offset, length } => &font[offset..offset + length],
-        Table::Absent => &font[0..0],
+    if directory_fits(font) {
+        return data_in(font, tag, least);
     }
+    &font[0..0]
 }

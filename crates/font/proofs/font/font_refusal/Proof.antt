@@ -10,14 +10,14 @@ use Rattle.font.proofs.font.font_refusal.Tie as tie
 directory-fits-requires : tie.Need-directory-fits-requires
 directory-fits-requires c κs = search needs
 
-new-requires : tie.Need-new-requires
-new-requires c κs = search needs
+index-in-requires : tie.Need-index-in-requires
+index-in-requires c κs = sym (c .before .directory-fits .ensures) ∙ c .if1 .taken
 
 enum-told : tie.Need-enum-told
 enum-told c = search needs
 
 axes-refusal-requires : tie.Need-axes-refusal-requires
-axes-refusal-requires c κs = search needs
+axes-refusal-requires c κs = sym (c .before .before .before .before .directory-fits .ensures) ∙ c .before .before .before .if1 .taken
 
 enum-told-2 : tie.Need-enum-told-2
 enum-told-2 c = search needs
@@ -26,11 +26,11 @@ returns : tie.Need-returns
 returns c =
     c .axes-refusal .ensures
     ∙ axes-refused _ _ (sym (c .before .before .before .before .before .directory-fits .ensures) ∙ c .before .before .before .before .if1 .taken)
-    (sym (c .before .before .before .new .ensures) ∙ c .before .enum-told .given .1)
+    (sym (c .before .before .before .index-in .ensures) ∙ c .before .enum-told .given .1)
 
 returns-2 : tie.Need-returns-2
 unfolding fromFontRef withCharmap refusedFont
-returns-2 c = simp (sym (c .before .before .before .before .directory-fits .ensures), c .before .before .before .if1 .taken, sym (c .before .before .new .ensures) ∙ c .enum-told2 .given .1)
+returns-2 c = simp (sym (c .before .before .before .before .directory-fits .ensures), c .before .before .before .if1 .taken, sym (c .before .before .index-in .ensures) ∙ c .enum-told2 .given .1)
 
 returns-3 : tie.Need-returns-3
 unfolding fromFontRef refusedFont
@@ -41,7 +41,7 @@ font-refusal-spec =
     tie.close
     (tie.spec
     directory-fits-requires
-    new-requires
+    index-in-requires
     enum-told
     axes-refusal-requires
     enum-told-2

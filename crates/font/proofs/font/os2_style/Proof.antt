@@ -15,8 +15,8 @@ returns : tie.Need-returns
 unfolding os2Style
 returns c = simp (sym (c .before .u16-at .ensures), lowest, eq-eqb _ _ (c .if1 .taken))
 
-table-data-requires : tie.Need-table-data-requires
-table-data-requires c κs = search needs
+data-in-requires : tie.Need-data-in-requires
+data-in-requires c κs = search needs
 
 post-angle-requires : tie.Need-post-angle-requires
 post-angle-requires c κs = search needs
@@ -24,7 +24,7 @@ post-angle-requires c κs = search needs
 returns-2 : tie.Need-returns-2
 unfolding os2Style
 returns-2 c = simp
-    (sym (c .before .before .before .before .u16-at .ensures), lowest, ninth, ne-eqb _ _ (c .before .before .before .if1 .left), eq-eqb _ _ (c .before .before .if2 .taken), sym (c .before .table-data .ensures), sym (c .post-angle .ensures))
+    (sym (c .before .before .before .before .u16-at .ensures), lowest, ninth, ne-eqb _ _ (c .before .before .before .if1 .left), eq-eqb _ _ (c .before .before .if2 .taken), sym (c .before .data-in .ensures), sym (c .post-angle .ensures))
 
 returns-3 : tie.Need-returns-3
 unfolding os2Style
@@ -33,4 +33,4 @@ returns-3 c = simp (sym (c .before .before .u16-at .ensures), lowest, ninth, ne-
 pub os2-style-spec : {M : Type 1} → statement M
 os2-style-spec =
     tie.close
-    (tie.spec u16-at-requires returns table-data-requires post-angle-requires returns-2 returns-3)
+    (tie.spec u16-at-requires returns data-in-requires post-angle-requires returns-2 returns-3)

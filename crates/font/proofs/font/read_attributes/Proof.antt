@@ -1,49 +1,27 @@
--- `font::font::read_attributes` meets its contract: each answer is that of the tests that led to it.
+-- `font::font::read_attributes` meets its contract: a directory that does not fit has no table.
 -- Assumes nothing.
 use mathlib.Core.Path.{sym, _∙_}
-use borrow.Author.Tests.{lt-ltb, le-ltb}
 use lib.Ieee.{ofBits, ofInt, round}
 use Rattle.font.specs.Single.{single}
 use Rattle.font.specs.Attributes.{defaultAttributes}
+use Rattle.font.specs.Tables.{findTable, tableData, partOf}
 use Rattle.font.specs.Reading.{present, readAttributes}
 use borrow.Author.Needs.{needs}
 use Rattle.font.proofs.font.read_attributes.Statement.{statement}
 use Rattle.font.proofs.font.read_attributes.Tie as tie
 
-table-data-requires : tie.Need-table-data-requires
-table-data-requires c κs = search needs
+directory-fits-requires : tie.Need-directory-fits-requires
+directory-fits-requires c κs = search needs
 
-from-os2-post-requires : tie.Need-from-os2-post-requires
-from-os2-post-requires c κs = search needs
+attributes-in-requires : tie.Need-attributes-in-requires
+attributes-in-requires c κs = sym (c .before .directory-fits .ensures) ∙ c .if1 .taken
 
 returns : tie.Need-returns
-unfolding readAttributes present
-returns c = simp (sym (c .before .before .table-data .ensures), lt-ltb _ _ (c .before .if1 .taken), sym (c .from-os2-post .ensures))
-
-table-data-requires-2 : tie.Need-table-data-requires-2
-table-data-requires-2 c κs = search needs
-
-from-head-requires : tie.Need-from-head-requires
-from-head-requires c κs = search needs
+returns c = c .attributes-in .ensures
 
 returns-2 : tie.Need-returns-2
-unfolding readAttributes present
-returns-2 c = simp
-    (sym (c .before .before .before .before .table-data .ensures), le-ltb _ _ (c .before .before .before .if1 .left), sym (c .before .before .table-data2 .ensures), lt-ltb _ _ (c .before .if2 .taken), sym (c .from-head .ensures))
-
-returns-3 : tie.Need-returns-3
-unfolding readAttributes present defaultAttributes single ofBits ofInt round
-returns-3 c = simp
-    (sym (c .before .before .before .table-data .ensures), le-ltb _ _ (c .before .before .if1 .left), sym (c .before .table-data2 .ensures), le-ltb _ _ (c .if2 .left))
+unfolding readAttributes present tableData findTable partOf defaultAttributes single ofBits ofInt round
+returns-2 c = simp (sym (c .before .directory-fits .ensures), c .if1 .left)
 
 pub read-attributes-spec : {M : Type 1} → statement M
-read-attributes-spec =
-    tie.close
-    (tie.spec
-    table-data-requires
-    from-os2-post-requires
-    returns
-    table-data-requires-2
-    from-head-requires
-    returns-2
-    returns-3)
+read-attributes-spec = tie.close (tie.spec directory-fits-requires attributes-in-requires returns returns-2)

@@ -7,8 +7,8 @@ use borrow.Author.Needs.{needs}
 use Rattle.font.proofs.font.with_index.Statement.{statement}
 use Rattle.font.proofs.font.with_index.Tie as tie
 
-table-data-requires : tie.Need-table-data-requires
-table-data-requires c κs = search needs
+data-in-requires : tie.Need-data-in-requires
+data-in-requires c κs = search needs
 
 axis-count-requires : tie.Need-axis-count-requires
 axis-count-requires c κs = search needs
@@ -19,10 +19,10 @@ refused-requires c κs = search needs
 returns : tie.Need-returns
 unfolding withIndex fvarOf
 returns c = simp
-    (sym (c .before .before .before .table-data .ensures), sym (c .before .before .axis-count .ensures .0), lt-leb _ _ (c .before .if1 .taken), sym (c .refused .ensures))
+    (sym (c .before .before .before .data-in .ensures), sym (c .before .before .axis-count .ensures .0), lt-leb _ _ (c .before .if1 .taken), sym (c .refused .ensures))
 
-read-attributes-requires : tie.Need-read-attributes-requires
-read-attributes-requires c κs = search needs
+attributes-in-requires : tie.Need-attributes-in-requires
+attributes-in-requires c κs = search needs
 
 read-axes-requires : tie.Need-read-axes-requires
 read-axes-requires c κs = search needs
@@ -30,16 +30,16 @@ read-axes-requires c κs = search needs
 returns-2 : tie.Need-returns-2
 unfolding withIndex fvarOf
 returns-2 c = simp
-    (sym (c .before .before .before .before .table-data .ensures), sym (c .before .before .before .axis-count .ensures .0), le-leb _ _ (c .before .before .if1 .left), sym (c .before .read-attributes .ensures), sym (c .read-axes .ensures))
+    (sym (c .before .before .before .before .data-in .ensures), sym (c .before .before .before .axis-count .ensures .0), le-leb _ _ (c .before .before .if1 .left), sym (c .before .attributes-in .ensures), sym (c .read-axes .ensures))
 
 pub with-index-spec : {M : Type 1} → statement M
 with-index-spec =
     tie.close
     (tie.spec
-    table-data-requires
+    data-in-requires
     axis-count-requires
     refused-requires
     returns
-    read-attributes-requires
+    attributes-in-requires
     read-axes-requires
     returns-2)

@@ -1,20 +1,20 @@
--- `font::tables::table_data` meets its contract: a found table lies in the file, so its part can be handed out.
+-- `font::tables::table_data` meets its contract: a directory that does not fit has no table.
 -- Assumes nothing.
 use mathlib.Core.Path.{sym, _∙_}
-use native.Mathlib.Omega.{arith}
-use Rattle.font.proofs.Lookup.{within, found-part, absent-part}
+use Rattle.font.specs.Tables.{findTable}
+use Rattle.font.proofs.Lookup.{absent-part}
 use borrow.Author.Needs.{needs}
 use Rattle.font.proofs.tables.table_data.Statement.{statement}
 use Rattle.font.proofs.tables.table_data.Tie as tie
 
-find-table-requires : tie.Need-find-table-requires
-find-table-requires c κs = search needs
+directory-fits-requires : tie.Need-directory-fits-requires
+directory-fits-requires c κs = search needs
 
-enum-known-offset : tie.Need-enum-known-offset
-enum-known-offset c = search needs
+data-in-requires : tie.Need-data-in-requires
+data-in-requires c κs = sym (c .before .directory-fits .ensures) ∙ c .if1 .taken
 
-add-result : tie.Need-add-result
-add-result c = omega (arith, within _ _ _ _ _ (sym (c .before .before .before .find-table .ensures) ∙ c .before .offset .given .1) .inside)
+returns : tie.Need-returns
+returns c = c .data-in .ensures
 
 sub-result : tie.Need-sub-result
 sub-result c = search needs
@@ -23,39 +23,12 @@ part-result-start : tie.Need-part-result-start
 part-result-start c = search needs
 
 part-result-end : tie.Need-part-result-end
-part-result-end c = within _ _ _ _ _ (sym (c .before .before .before .find-table .ensures) ∙ c .before .offset .given .1) .inside
-
-enum-told : tie.Need-enum-told
-enum-told c = search needs
-
-sub-result-2 : tie.Need-sub-result-2
-sub-result-2 c = search needs
-
-part-result-start-2 : tie.Need-part-result-start-2
-part-result-start-2 c = search needs
-
-part-result-end-2 : tie.Need-part-result-end-2
-part-result-end-2 c = search needs
-
-returns : tie.Need-returns
-returns c = found-part _ _ _ _ _ (sym (c .before .before .before .before .find-table .ensures) ∙ c .before .before .offset .given .1)
+part-result-end c = search needs
 
 returns-2 : tie.Need-returns-2
-returns-2 c = absent-part _ _ _ (sym (c .before .before .before .find-table .ensures) ∙ c .before .enum-told .given .1)
+unfolding findTable
+returns-2 c = absent-part _ _ _ (simp (sym (c .before .before .directory-fits .ensures), c .before .if1 .left))
 
 pub table-data-spec : {M : Type 1} → statement M
 table-data-spec =
-    tie.close
-    (tie.spec
-    find-table-requires
-    enum-known-offset
-    add-result
-    sub-result
-    part-result-start
-    part-result-end
-    enum-told
-    sub-result-2
-    part-result-start-2
-    part-result-end-2
-    returns
-    returns-2)
+    tie.close (tie.spec directory-fits-requires data-in-requires returns sub-result part-result-start part-result-end returns-2)

@@ -9,14 +9,14 @@ use Rattle.font.proofs.font.FontInfo.from_font_ref.Tie as tie
 directory-fits-requires : tie.Need-directory-fits-requires
 directory-fits-requires c κs = search needs
 
-new-requires : tie.Need-new-requires
-new-requires c κs = search needs
+index-in-requires : tie.Need-index-in-requires
+index-in-requires c κs = sym (c .before .directory-fits .ensures) ∙ c .if1 .taken
 
 enum-known-index : tie.Need-enum-known-index
 enum-known-index c = search needs
 
 with-index-requires : tie.Need-with-index-requires
-with-index-requires c κs = search needs
+with-index-requires c κs = sym (c .before .before .before .before .before .directory-fits .ensures) ∙ c .before .before .before .before .if1 .taken
 
 enum-told : tie.Need-enum-told
 enum-told c = search needs
@@ -30,12 +30,12 @@ refused-requires-2 c κs = search needs
 returns : tie.Need-returns
 unfolding fromFontRef withCharmap
 returns c = simp
-    (sym (c .before .before .before .before .before .before .directory-fits .ensures), c .before .before .before .before .before .if1 .taken, sym (c .before .before .before .before .new .ensures) ∙ c .before .before .index .given .1, sym (c .with-index .ensures))
+    (sym (c .before .before .before .before .before .before .directory-fits .ensures), c .before .before .before .before .before .if1 .taken, sym (c .before .before .before .before .index-in .ensures) ∙ c .before .before .index .given .1, sym (c .with-index .ensures))
 
 returns-2 : tie.Need-returns-2
 unfolding fromFontRef withCharmap
 returns-2 c = simp
-    (sym (c .before .before .before .before .before .directory-fits .ensures), c .before .before .before .before .if1 .taken, sym (c .before .before .before .new .ensures) ∙ c .before .enum-told .given .1, sym (c .refused .ensures))
+    (sym (c .before .before .before .before .before .directory-fits .ensures), c .before .before .before .before .if1 .taken, sym (c .before .before .before .index-in .ensures) ∙ c .before .enum-told .given .1, sym (c .refused .ensures))
 
 returns-3 : tie.Need-returns-3
 unfolding fromFontRef withCharmap
@@ -46,7 +46,7 @@ from-font-ref-spec =
     tie.close
     (tie.spec
     directory-fits-requires
-    new-requires
+    index-in-requires
     enum-known-index
     with-index-requires
     enum-told
