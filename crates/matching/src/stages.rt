@@ -192,7 +192,7 @@ pub fn none() -> Places
 }
 
 // The places whose ratio, style and weight equal the chosen face's.
-pub fn equal_places(
+pub(crate) fn equal_places(
     ratios: &[u32; 64],
     styles: &[u32; 64],
     weights: &[u32; 64],

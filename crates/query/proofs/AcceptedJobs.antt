@@ -14,10 +14,10 @@ use Rattle.query.specs.Reader.{Refusal, overlong, pastEnd, overLimit, no
 use Rattle.query.specs.Fields.{counted}
 use Rattle.query.specs.Entries.{readFace, readOverride, readFamily, readRequest}
 use Rattle.query.specs.Job.{Job, atEnd, readSections, readJob, answer, checkJob}
-use Rattle.query.specs.Layout.{after16, layoutFace, layoutOverride, layoutFamily, layoutRequest, layout, Every, FaceFits, OverrideFits, FamilyFits, RequestFits, JobFits}
+use Rattle.query.specs.Layout.{Bytes, after16, layoutFace, layoutOverride, layoutFamily, layoutRequest, layout, Every, FaceFits, OverrideFits, FamilyFits, RequestFits, JobFits}
 use Rattle.query.proofs.Ends.{number-nonzero, then-got}
 use Rattle.query.proofs.Stands.{Stands, join, split}
-use Rattle.query.proofs.Exact.{Bytes, Stood, Exact}
+use Rattle.query.proofs.Exact.{Stood, Exact}
 use Rattle.query.proofs.ExactLists.{then-is, stood-as, exact-counted}
 use Rattle.query.proofs.ExactEntries.{exact-face, exact-override, exact-family, exact-request}
 

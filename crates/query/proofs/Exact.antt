@@ -17,15 +17,11 @@ use Rattle.font.specs.Tables.{u16At, u32At}
 use Rattle.font.proofs.Fields.{in16, out16, in32, out32}
 use Rattle.query.specs.Reader.{Refusal, overLimit, notHeld, noFace, unknown, badNumber, got, Reader, onward, field, tested}
 use Rattle.query.specs.Fields.{byte, half, word, single, ratio, value, count, heldByte, faceNumber, mask, kind, spareByte, spareWord}
-use Rattle.query.specs.Layout.{bytes8, bytes16, bytes32, bytesOf, Fits8, Fits16, Fits32, IsNumber, IsRatio, IsValue}
+use Rattle.query.specs.Layout.{Bytes, bytes8, bytes16, bytes32, bytesOf, Fits8, Fits16, Fits32, IsNumber, IsRatio, IsValue}
 use Rattle.query.proofs.Ends.{Read}
 use Rattle.query.proofs.Leaves.{byteAt, singleAt, byte-read, half-read, word-read, ratio-read, value-read, count-read, held-read, face-number-read, mask-read, kind-read, spare-byte-read, spare-word-read}
 use Rattle.query.proofs.Singles.{ratio-finite}
 use Rattle.query.proofs.Stands.{Stands, join, split, inside, one}
-
--- a list of bytes
-abbrev pub Bytes : List ℕ → Type 0
-Bytes s = (i : ℕ) → getD s i 0 < 256
 
 -- what was read stands there, within the limits
 pub record Stood (s : List ℕ) (p : ℕ) (x : List ℕ) (q : ℕ) (W : Type 0) : Type 0 where

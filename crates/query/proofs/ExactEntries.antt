@@ -24,10 +24,10 @@ use Rattle.font.specs.Reading.{bit}
 use Rattle.query.specs.Reader.{got, Reader, done, _>>=_}
 use Rattle.query.specs.Fields.{half, word, ratio, value, counted, byteCounted, heldByte, faceNumber, mask, kind, spareByte, spareWord, orSpare, fontFile}
 use Rattle.query.specs.Entries.{readFace, styleOfKind, readAngle, readStyle, readWidth, readWeight, styleOrSpare, readGiven, readPair, readOverride, readFamily, readRequested, readRequest}
-use Rattle.query.specs.Layout.{bytes8, bytes16, bytes32, bytesOf, after8, layoutFont, layoutFace, kindOf, angleOf, layoutAngle, layoutStyle, givesWidth, givesStyle, givesWeight, maskOf, layoutWidth, layoutStyleGiven, layoutWeight, layoutGiven, layoutPair, layoutOverride, layoutFamily, layoutAttributes, layoutRequest, Every, Fits8, Fits16, IsRatio, IsValue, FaceFits, AngleFits, StyleFits, WidthFits, StyleGivenFits, WeightFits, PairFits, OverrideFits, FamilyFits, RequestFits}
+use Rattle.query.specs.Layout.{Bytes, bytes8, bytes16, bytes32, bytesOf, after8, layoutFont, layoutFace, kindOf, angleOf, layoutAngle, layoutStyle, givesWidth, givesStyle, givesWeight, maskOf, layoutWidth, layoutStyleGiven, layoutWeight, layoutGiven, layoutPair, layoutOverride, layoutFamily, layoutAttributes, layoutRequest, Every, Fits8, Fits16, IsRatio, IsValue, FaceFits, AngleFits, StyleFits, WidthFits, StyleGivenFits, WeightFits, PairFits, OverrideFits, FamilyFits, RequestFits}
 use Rattle.query.proofs.Ends.{then-got}
 use Rattle.query.proofs.Stands.{Stands, join, split, none}
-use Rattle.query.proofs.Exact.{Bytes, Stood, Exact, exact-half, exact-word, exact-ratio, exact-value, exact-held, exact-face-number, exact-mask, exact-kind, exact-spare-byte, exact-spare-word}
+use Rattle.query.proofs.Exact.{Stood, Exact, exact-half, exact-word, exact-ratio, exact-value, exact-held, exact-face-number, exact-mask, exact-kind, exact-spare-byte, exact-spare-word}
 use Rattle.query.proofs.ExactLists.{then-is, done-got, done-is, stood-as, exact-counted, exact-byte-counted, exact-font}
 
 false-is-not-true : {A : Type 0} → false ≡ true → A

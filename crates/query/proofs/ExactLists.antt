@@ -11,10 +11,10 @@ use borrow.Author.Tests.{le-leb, leb-true, eqb-true}
 use Rattle.font.specs.Font.{fromFontRef}
 use Rattle.query.specs.Reader.{Refusal, pastEnd, Got, refused, got, Reader, done, onward, _>>=_, many}
 use Rattle.query.specs.Fields.{byte, word, count, counted, byteCounted, fontRefusal, fontBytes, fontTaken, fontAt, fontFile}
-use Rattle.query.specs.Layout.{bytes8, bytes16, bytes32, each, after8, after16, layoutFont, Every, Fits8, Fits32}
+use Rattle.query.specs.Layout.{Bytes, bytes8, bytes16, bytes32, each, after8, after16, layoutFont, Every, Fits8, Fits32}
 use Rattle.query.proofs.Ends.{then-got}
 use Rattle.query.proofs.Stands.{Stands, join, split, none}
-use Rattle.query.proofs.Exact.{Bytes, Stood, Exact, there32, exact-byte, exact-word, exact-count}
+use Rattle.query.proofs.Exact.{Stood, Exact, there32, exact-byte, exact-word, exact-count}
 
 -- one after another, where both are read
 pub then-is : {A B : Type 0} (r : Reader A) (k : A → Reader B) (s : List ℕ) (p : ℕ) (a : A) (q : ℕ) {g : Got B}

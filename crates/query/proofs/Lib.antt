@@ -45,3 +45,4 @@ pub mod Finds
 pub mod Requests
 pub mod Calls
 pub mod CursorRun
+pub mod Demands

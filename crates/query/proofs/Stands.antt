@@ -38,11 +38,6 @@ pub inside : {s : List ℕ} {p : ℕ} (a : ℕ) (x : List ℕ) {q : ℕ} → Sta
 inside {s} {p} a x {q} h =
     omega (arith, length-drop p s, ap length (h .rest), length-append (a ∷ x) (drop q s))
 
--- the byte at a place of what stands in the job
-pub at-place : {s : List ℕ} {p : ℕ} (x : List ℕ) {q : ℕ} (i : ℕ) → Stands s p x q → i < length x → getD s (p + i) 0 ≡ getD x i 0
-at-place {s} {p} x {q} i h l =
-    sym (getD-drop p s i 0) ∙ (ap (λ (z : List ℕ). getD z i 0) (h .rest) ∙ List·getD-append x (drop q s) 0 i l)
-
 -- one byte of the job
 pub one : (s : List ℕ) (p : ℕ) → p + 1 ≤ length s → Stands s p (getD s p 0 ∷ []) (p + 1)
 one s p h = record { next = refl; rest = drop-cons s p 0 (omega arith) ∙ ap (λ (n : ℕ). getD s p 0 ∷ drop n s) (sym (add-one p)) }

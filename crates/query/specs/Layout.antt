@@ -3,7 +3,7 @@ use Prim.Native.Nat.{ℕ, _+_, _/_, _%_, _^_, _≤_, _<_}
 use mathlib.Core.Path.{_≡_}
 use mathlib.Core.Bool.{Bool, true, false, cond}
 use mathlib.Core.List.{List, [], _∷_, _++_}
-use lib.ListN.{length}
+use lib.ListN.{length, getD}
 use lib.Dec.{T}
 use lib.Ieee.{Float, binary32, toBits, fits}
 use lib.Ieee.Scale.{finite}
@@ -29,6 +29,10 @@ use Rattle.query.specs.Job.{Job}
 -- "Job and output are big-endian"
 unfoldable pub bytes8 : ℕ → List ℕ
 bytes8 n = n ∷ []
+
+-- a list of bytes
+abbrev pub Bytes : List ℕ → Type 0
+Bytes s = (i : ℕ) → getD s i 0 < 256
 
 unfoldable pub bytes16 : ℕ → List ℕ
 bytes16 n = n / 256 ∷ n % 256 ∷ []

@@ -12,3 +12,4 @@ pub mod Located
 pub mod Load
 pub mod Call
 pub mod Found
+pub mod Demands

@@ -63,8 +63,3 @@ many (suc n) r = r >>= λ a. many n r >>= λ rest. done (a ∷ rest)
 unfoldable pub ended : {A : Type 0} → Got A → At
 ended (refused why p) = record { refusal = number why; at = p }
 ended (got a p) = record { refusal = 0; at = p }
-
--- where the entry number i stands, of entries of one kind from p on
-unfoldable pub entryAt : {A : Type 0} → Reader A → List ℕ → ℕ → ℕ → ℕ
-entryAt r s p zero = p
-entryAt r s p (suc i) = ended (r s (entryAt r s p i)) .at

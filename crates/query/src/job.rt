@@ -16,7 +16,7 @@ pub struct Checked {
 }
 
 // The check call's answer, and where the sections of overrides and families begin; both are 0 in a refused job.
-pub struct Places {
+pub(crate) struct Places {
     pub refusal: u8,
     pub position: usize,
     pub overrides: usize,
