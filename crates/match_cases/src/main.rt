@@ -21,6 +21,7 @@ use matching::family::FamilyInfo;
 use matching::matching::Choice;
 use matching::stages::Places;
 use matching::synthesis::Synthesis;
+use output::words;
 
 // The charmap index of every face of the list, which has none.
 const NO_INDEX: CharmapIndex = CharmapIndex {
@@ -143,24 +144,9 @@ fn faces_at(s: &[u8], start: usize, count: u8) -> Faces
 
 // Printing.
 
-// A byte, and then a number.
-fn print_number(before: u8, n: usize) {
-    let lead = [before];
-    io::write_all(STDOUT_FILENO, &lead);
-    io::print_decimal(STDOUT_FILENO, n as u64);
-}
-
-// The bits of a single, or 0 for a NaN, which no setting has.
-fn bits_of(x: f32) -> u32 {
-    if x != x {
-        return 0;
-    }
-    f32::to_bits(x)
-}
-
 fn print_refused(refusal: u8) {
     io::write_all(STDOUT_FILENO, b"refused");
-    print_number(b' ', refusal as usize);
+    words::print_number(b' ', refusal as u64);
 }
 
 fn print_choice(choice: Choice) {
@@ -181,74 +167,28 @@ fn print_places(places: [usize; 64], count: usize) {
         io::write_all(STDOUT_FILENO, b" -");
         return;
     }
-    print_number(b' ', places[0]);
+    words::print_number(b' ', places[0] as u64);
     let mut i: usize = 1;
     while i < 64 {
         if count <= i {
             return;
         }
-        print_number(b',', places[i]);
-        i += 1;
-    }
-}
-
-fn print_embolden(on: bool) {
-    if on {
-        io::write_all(STDOUT_FILENO, b" b");
-    } else {
-        io::write_all(STDOUT_FILENO, b" -");
-    }
-}
-
-fn print_skew(skew: i8) {
-    if skew < 0 {
-        // One less than the magnitude, which fits for -128 too.
-        let less = -1 - skew;
-        io::write_all(STDOUT_FILENO, b" -");
-        io::print_decimal(STDOUT_FILENO, less as u64 + 1);
-    } else {
-        print_number(b' ', skew as usize);
-    }
-}
-
-// A setting: the tag's four characters, and the bits of the value.
-fn print_setting(tag: u32, value: f32) {
-    let text = [
-        b' ',
-        (tag / 0x100_0000) as u8,
-        (tag / 0x1_0000 % 256) as u8,
-        (tag / 0x100 % 256) as u8,
-        (tag % 256) as u8,
-        b'=',
-    ];
-    io::write_all(STDOUT_FILENO, &text);
-    io::print_hex(STDOUT_FILENO, bits_of(value) as u64, 8);
-}
-
-fn print_settings(tags: [u32; 3], values: [f32; 3], len: u8) {
-    let mut i: u8 = 0;
-    while i < 3 {
-        if len <= i {
-            return;
-        }
-        print_setting(tags[i as usize], values[i as usize]);
+        words::print_number(b',', places[i] as u64);
         i += 1;
     }
 }
 
 fn print_synthesis(synthesis: Synthesis) {
-    let tags = synthesis.tags;
-    let values = synthesis.values;
-    print_embolden(synthesis.embolden);
-    print_skew(synthesis.skew);
-    print_settings(tags, values, synthesis.len);
+    words::print_embolden(synthesis.embolden);
+    words::print_skew(synthesis.skew);
+    words::print_settings(synthesis);
 }
 
 fn print_line(choice: Choice, list: Places, default: usize, synthesis: Synthesis) {
     let places = list.places;
     print_choice(choice);
     print_places(places, list.count);
-    print_number(b' ', default);
+    words::print_number(b' ', default as u64);
     print_synthesis(synthesis);
 }
 

@@ -1,8 +1,10 @@
 // The lines of a job, written to standard output.
-ghost use Prim.Native.Nat.{_<_};
-use font::tables;
+use crate::words;
+use font::charmap::CharmapIndex;
 use libc::STDOUT_FILENO;
+use query::answer::Answer;
 use query::call;
+use query::cursor::Cursor;
 use query::job;
 
 // The most requests that a job has.
@@ -11,108 +13,57 @@ const MOST_REQUESTS: u32 = 256;
 // One more than the most offers that a request can ask for.
 const PAST_MOST: u32 = 65536;
 
-fn byte_at(s: &[u8], at: usize) -> u8 {
-    if at < s.len() { s[at] } else { 0 }
-}
-
-// A byte, and then a number.
-fn print_number(before: u8, n: u64) {
-    let lead = [before];
-    io::write_all(STDOUT_FILENO, &lead);
-    io::print_decimal(STDOUT_FILENO, n);
-}
-
-fn print_embolden(on: u8) {
-    if on == 0 {
-        io::write_all(STDOUT_FILENO, b" -");
+fn print_flag(on: bool) {
+    if on {
+        io::write_all(STDOUT_FILENO, b" 1");
     } else {
-        io::write_all(STDOUT_FILENO, b" b");
-    }
-}
-
-// A number in two's complement.
-fn print_skew(skew: u8) {
-    if skew < 128 {
-        print_number(b' ', skew as u64);
-    } else {
-        io::write_all(STDOUT_FILENO, b" -");
-        io::print_decimal(STDOUT_FILENO, 256 - skew as u64);
-    }
-}
-
-// A setting: the tag's four characters, and the bits of the value.
-fn print_setting(record: &[u8], at: usize)
-    requires { ⌜ at < 64 ⌝ }
-{
-    let text = [
-        b' ',
-        byte_at(record, at),
-        byte_at(record, at + 1),
-        byte_at(record, at + 2),
-        byte_at(record, at + 3),
-        b'=',
-    ];
-    io::write_all(STDOUT_FILENO, &text);
-    io::print_hex(STDOUT_FILENO, tables::u32_at(record, at + 4) as u64, 8);
-}
-
-fn print_settings(record: &[u8], count: u8) {
-    let mut i: u8 = 0;
-    while i < 3 {
-        if count <= i {
-            return;
-        }
-        print_setting(record, 8 + 8 * i as usize);
-        i += 1;
+        io::write_all(STDOUT_FILENO, b" 0");
     }
 }
 
 // The charmap index: the offset, and whether it is a symbol or a Mac Roman record.
-fn print_index(record: &[u8]) {
-    print_number(b' ', tables::u32_at(record, 32) as u64);
-    print_number(b' ', byte_at(record, 36) as u64);
-    print_number(b' ', byte_at(record, 37) as u64);
+fn print_index(index: CharmapIndex) {
+    words::print_number(b' ', index.subtable_offset as u64);
+    print_flag(index.is_symbol);
+    print_flag(index.is_mac_roman);
 }
 
-// The line of an offer, from its 40 bytes.
-fn print_offer(request: u32, record: &[u8], indexed: bool) {
+// The line of an offer.
+fn print_offer(request: u32, answer: Answer, indexed: bool) {
+    let offer = answer.offer;
+    let synthesis = answer.synthesis;
     io::print_decimal(STDOUT_FILENO, request as u64);
-    print_number(b' ', tables::u16_at(record, 0) as u64);
-    print_number(b' ', tables::u16_at(record, 2) as u64);
-    print_embolden(byte_at(record, 4));
-    print_skew(byte_at(record, 5));
+    words::print_number(b' ', offer.family as u64);
+    words::print_number(b' ', offer.place as u64);
+    words::print_embolden(synthesis.embolden);
+    words::print_skew(synthesis.skew);
     if indexed {
-        print_index(record);
+        print_index(answer.charmap_index);
     }
-    print_settings(record, byte_at(record, 6));
+    words::print_settings(synthesis);
     io::write_all(STDOUT_FILENO, b"\n");
 }
 
-// The line of an offer, or nothing past the list. Answers whether there was an offer.
-fn print_numbered(job: &[u8], request: u32, n: u32, indexed: bool) -> bool {
-    let mut record = [0u8; 40];
-    let result = call::offer(job, request, n, &mut record);
-    if result == 0 {
-        print_offer(request, &record, indexed);
-    }
-    result == 0
-}
-
-// The lines of a request.
+// The lines of a request: a fresh cursor is stepped to the end of the list.
 fn print_request(job: &[u8], request: u32, indexed: bool) {
+    let mut cursor = Cursor::new(request);
     let mut n: u32 = 0;
     while n < PAST_MOST {
-        if !print_numbered(job, request, n, indexed) {
+        let step = cursor.step(job);
+        let answer = step.answer;
+        if answer.result != 0 {
             return;
         }
+        print_offer(request, answer, indexed);
+        cursor = step.cursor;
         n += 1;
     }
 }
 
 // Whether an accepted job has the request: 28 says that it has not.
 fn has_request(job: &[u8], request: u32) -> bool {
-    let mut record = [0u8; 40];
-    call::offer(job, request, PAST_MOST, &mut record) != 28
+    let answer = call::offer_at(job, request, PAST_MOST);
+    answer.result != 28
 }
 
 fn request_count(job: &[u8]) -> u32 {
@@ -139,13 +90,13 @@ fn print_lines(job: &[u8], indexed: bool) {
     if checked.refusal == 0 {
         let count = request_count(job);
         io::write_all(STDOUT_FILENO, b"requests");
-        print_number(b' ', count as u64);
+        words::print_number(b' ', count as u64);
         io::write_all(STDOUT_FILENO, b"\n");
         print_requests(job, count, indexed);
     } else {
         io::write_all(STDOUT_FILENO, b"refused");
-        print_number(b' ', checked.refusal as u64);
-        print_number(b' ', checked.position as u64);
+        words::print_number(b' ', checked.refusal as u64);
+        words::print_number(b' ', checked.position as u64);
         io::write_all(STDOUT_FILENO, b"\n");
     }
 }

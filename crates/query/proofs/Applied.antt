@@ -38,8 +38,8 @@ use Rattle.matching.specs.Matching.{axisAt, axisCount, axisPlace, hasAxis, noAx
 use Rattle.matching.proofs.Ranks.{Tri, low, same, high, tri}
 use Rattle.query.specs.Entries.{Pair, Override}
 use Rattle.query.specs.Sheet.{overriddenBy, afterOverrides}
-use Rattle.query.specs.Located.{placeOf}
-use Rattle.query.specs.Load.{runOf, faceAt, fontAt, numberAt, styleAt, givenAt, pairAt, pairEnd, overrideAt, overridePlace, overridesAt, withAxes, afterPairs}
+use Rattle.query.specs.Located.{placeOf, numberAt, styleAt}
+use Rattle.query.specs.Load.{runOf, faceAt, fontAt, givenAt, pairAt, pairEnd, overrideAt, overridePlace, overridesAt, withAxes, afterPairs}
 use Rattle.query.proofs.Ordered.{run-at, run-length}
 use Rattle.query.proofs.Replacing.{after-append, overrides-last}
 

@@ -1,35 +1,24 @@
 -- The offer call, case by case: what each return of its code has to show.
-use Prim.Native.Nat.{ℕ, _+_, _≤_, _<_}
-use mathlib.Core.Path.{_≡_, refl, sym, ap, _∙_}
+use Prim.Native.Nat.{ℕ, _≤_, _<_}
+use mathlib.Core.Path.{_≡_, refl, ap, _∙_}
 use mathlib.Core.Bool.{Bool, true, false, cond}
 use mathlib.Core.List.{List}
-use native.Mathlib.Omega.{arith}
-use lib.Dec.{ltb, eqb}
-use lib.ListN.{length, getD}
+use lib.Dec.{eqb}
+use lib.ListN.{length}
 use borrow.Author.Tests.{lt-ltb, le-ltb}
 use lib.IntN.{ℤ}
 use Rattle.matching.specs.declared.synthesis.Setting.{Setting}
 use Rattle.matching.specs.declared.synthesis.Setting.the-variants.{Unset, Set}
 use Rattle.matching.specs.Synthesis.{unvaried, put, added, synthesized}
-use Rattle.query.specs.declared.offers.Offer.{Offer}
-use Rattle.query.specs.declared.call.Answer.{Answer}
+use Rattle.query.specs.declared.answer.Offer.{Offer}
+use Rattle.query.specs.declared.answer.Answer.{Answer}
 use Rattle.query.specs.Reader.{Got, refused, got}
 use Rattle.query.specs.Entries.{Request}
 use Rattle.query.specs.Job.{Job, readJob, answer, checkJob}
 use Rattle.query.specs.Offers.{offerAt}
 use Rattle.query.specs.Sheet.{offersOf, synthesisOfOffer}
 use Rattle.query.specs.Record.{recordBytes}
-use Rattle.query.specs.Call.{Called, withoutOffer, requestOfJob, answered, requestAnswer, jobAnswer, answerCall, written, unwritten, offerCall}
-use Rattle.query.proofs.Ends.{number-nonzero}
-
--- a job that the check call accepts
-pub accepted-job : (s : List ℕ) → checkJob s .refusal ≡ 0 → (j : Job) × (e : ℕ) × (readJob s ≡ got j e)
-unfolding checkJob answer
-accepted-job s = go (readJob s) refl
-  where
-    go : (g : Got Job) → readJob s ≡ g → answer g .refusal ≡ 0 → (j : Job) × (e : ℕ) × (readJob s ≡ got j e)
-    go (refused w p) h z = absurd (number-nonzero w z)
-    go (got j e) h z = (j, e, h)
+use Rattle.query.specs.Call.{withoutOffer, requestOfJob, answered, requestAnswer, jobAnswer, answerCall, written, unwritten, offerCall}
 
 module _ (s : List ℕ) (k n : ℕ) where
   pub job-refused : (r : ℕ) → r ≡ checkJob s .refusal → (r ≡ 0 → ⊥) → withoutOffer r ≡ answerCall s k n

@@ -16,10 +16,10 @@ use Rattle.font.specs.Font.{fromFontRef}
 use Rattle.font.proofs.Inside.{offset-inside}
 use Rattle.matching.specs.declared.synthesis.Synthesis.{Synthesis}
 use Rattle.matching.specs.Synthesis.{synthesized, variesOf}
-use Rattle.query.specs.declared.offers.Offer.{Offer}
+use Rattle.query.specs.declared.answer.Offer.{Offer}
 use Rattle.query.specs.declared.offers.Offered.{Offered}
 use Rattle.query.specs.declared.offers.Offered.the-variants.{At, Past}
-use Rattle.query.specs.declared.call.Answer.{Answer}
+use Rattle.query.specs.declared.answer.Answer.{Answer}
 use Rattle.query.specs.Reader.{Got, refused, got}
 use Rattle.query.specs.Entries.{Face, Request, Override}
 use Rattle.query.specs.Job.{Job, readJob, checkJob}
@@ -32,13 +32,14 @@ use Rattle.query.specs.Call.{Called, withoutOffer, withSynthesis, answer
 use Rattle.query.specs.Found.{Lies, Told, Named, Answers}
 use Rattle.query.proofs.Glued.{laid, requests-count, request-is}
 use Rattle.query.proofs.Loaded.{accepted-laid, face-count, entry-is}
-use Rattle.query.proofs.Called.{accepted-job, a-request}
+use Rattle.query.proofs.AcceptedJobs.{check-accepts}
+use Rattle.query.proofs.Called.{a-request}
 
 -- ---- a request of an accepted job
 
 module _ (s : List ℕ) (accepted : checkJob s .refusal ≡ 0) (at n : ℕ) (answer : Offered) (told : Told s at n answer) where
   the : (j : Job) × (e : ℕ) × (readJob s ≡ got j e)
-  the = accepted-job s accepted
+  the = check-accepts s accepted
 
   call-is : (k : ℕ) → Lies s at k → answered (the .0) (requestOfJob (the .0) k) answer ≡ answerCall s k n
   call-is k lies =

@@ -8,7 +8,7 @@ use borrow.Author.Tests.{eq-eqb}
 use lib.ListN.{length, getD, take, replicate}
 use Rattle.font.specs.Attributes.{defaultAttributes}
 use Rattle.matching.specs.Matching.{requestOf}
-use Rattle.query.specs.declared.offers.Offer.{Offer}
+use Rattle.query.specs.declared.answer.Offer.{Offer}
 use Rattle.query.specs.declared.offers.Offered.the-variants as Offered'
 use Rattle.query.specs.Reader.{got}
 use Rattle.query.specs.Entries.{Request}
@@ -17,7 +17,7 @@ use Rattle.query.specs.Job.{Job, readJob}
 use Rattle.query.specs.Offers.{pick, offerAt, offerOf, facesOf}
 use Rattle.query.specs.Sheet.{fontOf, heldOf, familiesOf, offersOf, faceOfOffer, synthesisOfOffer}
 use Rattle.query.specs.Record.{recordBytes}
-use Rattle.query.specs.declared.call.Answer.{Answer}
+use Rattle.query.specs.declared.answer.Answer.{Answer}
 use Rattle.query.specs.Call.{withoutOffer, withSynthesis, answered, requestOfJob, answerCall, written, unwritten, offerCall}
 use Rattle.query.specs.Cursor.{fresh, isOffer, run}
 use Rattle.query.proofs.Called as Called'

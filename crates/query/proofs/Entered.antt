@@ -1,28 +1,24 @@
 -- What was read of a job's families and requests, by position: each entry, the position after it, and what is known of its numbers.
 use Prim.Native.Nat.{ℕ, zero, suc, _+_, _*_, _≤_, _<_}
-use mathlib.Core.Path.{_≡_, refl, sym, ap, _∙_}
-use mathlib.Core.Bool.{Bool, true, false, cond}
-use mathlib.Core.List.{List, [], _∷_}
+use mathlib.Core.Path.{_≡_, sym, ap, _∙_}
+use mathlib.Core.Bool.{Bool, true}
+use mathlib.Core.List.{List, []}
 use native.Mathlib.Omega.{arith}
-use lib.Dec.{leb, ltb, eqb}
-use lib.Ieee.{Float}
-use lib.Ieee.Scale.{finite}
-use lib.ListN.{length, getD}
+use lib.Dec.{ltb}
+use lib.ListN.{length}
 use lib.Seq.{ext-getD}
-use borrow.Author.Tests.{leb-true, ltb-true, eq-eqb}
+use borrow.Author.Tests.{leb-true, ltb-true}
 use Rattle.font.specs.Tables.{u16At}
 use Rattle.font.specs.Attributes.{attributesOf}
-use Rattle.font.specs.declared.attributes.Angle.{Angle}
-use Rattle.font.specs.declared.attributes.Angle.the-variants.{Unstated, Degrees}
-use Rattle.font.specs.declared.attributes.FontStyle.{FontStyle}
 use Rattle.font.specs.declared.attributes.Attributes.{Attributes}
-use Rattle.query.specs.Reader.{Reader, got, done, _>>=_, many}
-use Rattle.query.specs.Fields.{byte, half, ratio, value, count, counted, byteCounted, faceNumber, kind, spareWord, orSpare}
-use Rattle.query.specs.Entries.{Family, Request, styleOfKind, readAngle, readStyle, readFamily, readRequested, readRequest}
+use Rattle.query.specs.Reader.{Reader, got, done, many}
+use Rattle.query.specs.Fields.{byte, half, ratio, value, count, counted, byteCounted, faceNumber}
+use Rattle.query.specs.Entries.{Family, Request, readStyle, readFamily, readRequested, readRequest}
 use Rattle.query.specs.Offers.{numbersAt, membersAt, listAt, fallbacksAt}
-use Rattle.query.specs.Located.{placeOf, afterFamily, familyAt, FamilyKnown, afterRequest, singleAt, styleAt, requestedAt, StyleKnown, RequestedKnown, requestAt}
+use Rattle.query.specs.Located.{placeOf, afterFamily, familyAt, FamilyKnown, afterRequest, numberAt, styleAt, requestedAt, requestAt}
 use Rattle.query.proofs.Ends.{Read, then-got, many-length}
-use Rattle.query.proofs.Leaves.{byte-read, half-read, ratio-read, value-read, count-read, face-number-read, kind-read, spare-word-read, counted-length}
+use Rattle.query.proofs.Leaves.{byte-read, half-read, count-read, face-number-read, counted-length}
+use Rattle.query.proofs.Laid.{ratio-laid, value-laid, style-laid}
 use Rattle.query.proofs.Gathered.{numbers-length, number-at}
 use Rattle.query.proofs.Runs.{One, Run, run, run-in}
 
@@ -113,91 +109,25 @@ list-one s p xs q e =
     let m = moved-numbers (c .value) (c .next) (numbers-read (λ i. true) half s (half-read s) (g .0) (g .1) xs q (g .3)) in
     record { values = m .values; end = m .end; inside = m .inside (c .inside) }
 
-record Angled (s : List ℕ) (b : Bool) (p : ℕ) (a : Angle) (q : ℕ) : Type 0 where
-  pub angle : a ≡ cond b (Degrees (singleAt s p)) Unstated
-  pub end : q ≡ p + 4
-  pub inside : p + 4 ≤ length s
-  pub known : b ≡ true → finite (singleAt s p) ≡ true
-
-angle-one : (s : List ℕ) (b : Bool) (p : ℕ) (a : Angle) (q : ℕ) → orSpare b Unstated readAngle s p ≡ got a q → Angled s b p a q
-unfolding orSpare readAngle singleAt done
-angle-one s true p a q e =
-    let g = then-got value _ s p a q e in
-    let c = value-read s p (g .0) (g .1) (g .2) in
-    let same : a ≡ Degrees (g .0) = cc (g .3) in
-    let last : q ≡ g .1 = cc (g .3) in
-    record { angle = same ∙ ap Degrees (c .value); end = last ∙ c .next; inside = c .inside; known = λ h. rw (c .value) at (c .passed) }
-angle-one s false p a q e =
-    let g = then-got spareWord _ s p a q e in
-    let c = spare-word-read s p (g .0) (g .1) (g .2) in
-    let same : a ≡ Unstated = cc (g .3) in
-    let last : q ≡ g .1 = cc (g .3) in
-    record { angle = same; end = last ∙ c .next; inside = c .inside; known = λ h. absurd (let z : _≡_ {A = ℕ} 0 1 = cc in omega arith) }
-
-moved-angle : {s : List ℕ} {b c : Bool} {p t : ℕ} {a : Angle} {q : ℕ} → b ≡ c → p ≡ t → Angled s b p a q → Angled s c t a q
-moved-angle e f h = rw (e, f) at h
-
-record Styled (s : List ℕ) (p : ℕ) (a : FontStyle) (q : ℕ) : Type 0 where
-  pub style : a ≡ styleAt s p
-  pub end : q ≡ p + 5
-  pub known : StyleKnown s p
-
-style-one : (s : List ℕ) (p : ℕ) (a : FontStyle) (q : ℕ) → readStyle s p ≡ got a q → Styled s p a q
-unfolding readStyle styleAt done
-style-one s p a q e =
-    let h = then-got kind _ s p a q e in
-    let c = kind-read s p (h .0) (h .1) (h .2) in
-    let g = then-got (orSpare (eqb (h .0) 3) Unstated readAngle) _ s (h .1) a q (h .3) in
-    let m = moved-angle (ap (λ (k : ℕ). eqb k 3) (c .value)) (c .next) (angle-one s (eqb (h .0) 3) (h .1) (g .0) (g .1) (g .2)) in
-    let same : a ≡ styleOfKind (h .0) (g .0) = cc (g .3) in
-    let last : q ≡ g .1 = cc (g .3) in
-    record {
-      style = same ∙ ap (λ (k : ℕ). styleOfKind k (g .0)) (c .value) ∙ ap (styleOfKind (getD s p 0)) (m .angle);
-      end = omega (arith, last, m .end);
-      known = record { inside = omega (arith, m .inside); angle = λ k. m .known (eq-eqb (getD s p 0) 3 k) };
-    }
-
-moved-style : {s : List ℕ} {p t : ℕ} {a : FontStyle} {q : ℕ} → p ≡ t → Styled s p a q → Styled s t a q
-moved-style e h = rw e at h
-
-record Requested (s : List ℕ) (p : ℕ) (a : Attributes) (q : ℕ) : Type 0 where
-  pub attributes : a ≡ requestedAt s p
-  pub end : q ≡ p + 13
-  pub known : RequestedKnown s p
-
-moved-requested : {s : List ℕ} {p t : ℕ} {a : Attributes} {q : ℕ} → p ≡ t → Requested s p a q → Requested s t a q
-moved-requested e h = rw e at h
-
-made : {a b : Float} {x y : FontStyle} {d e : Float} → a ≡ b → x ≡ y → d ≡ e → attributesOf a x d ≡ attributesOf b y e
-made p q r = λ k. attributesOf (p k) (q k) (r k)
-
-requested-one : (s : List ℕ) (p : ℕ) (a : Attributes) (q : ℕ) → readRequested s p ≡ got a q → Requested s p a q
-unfolding readRequested requestedAt singleAt done
+requested-one : (s : List ℕ) (p : ℕ) (a : Attributes) (q : ℕ) → readRequested s p ≡ got a q → (a ≡ requestedAt s p) × (q ≡ p + 13)
+unfolding readRequested requestedAt done
 requested-one s p a q e =
     let f = then-got ratio _ s p a q e in
-    let w = ratio-read s p (f .0) (f .1) (f .2) in
+    let w = ratio-laid s p (f .0) (f .1) (f .2) in
     let g = then-got readStyle _ s (f .1) a q (f .3) in
-    let t = moved-style (w .next) (style-one s (f .1) (g .0) (g .1) (g .2)) in
+    let t = style-laid s (f .1) (g .0) (g .1) (g .2) in
     let h = then-got value _ s (g .1) a q (g .3) in
-    let v = value-read s (g .1) (h .0) (h .1) (h .2) in
-    let place : g .1 ≡ p + 9 = omega (arith, t .end) in
+    let v = value-laid s (g .1) (h .0) (h .1) (h .2) in
+    let place : g .1 ≡ p + 9 = omega (arith, t .1, w .1) in
     let same : a ≡ attributesOf (f .0) (g .0) (h .0) = cc (h .3) in
-    let last : q ≡ h .1 = cc (h .3) in
-    let weight : h .0 ≡ singleAt s (p + 9) = v .value ∙ ap (singleAt s) place in
-    record {
-      attributes = same ∙ made (w .value) (t .style) weight;
-      end = omega (arith, last, v .next, place);
-      known =
-          record {
-            inside = omega (arith, v .inside, place);
-            width = rw (w .value) at (w .passed);
-            style = t .known;
-            weight = rw weight at (v .passed);
-          };
-    }
+    let last : q ≡ h .1 = cc (h .3) in (
+      same
+          ∙ (λ k. attributesOf (w .0 k) ((t .0 ∙ ap (styleAt s) (w .1)) k) ((v .0 ∙ ap (numberAt s) place) k)),
+      omega (arith, last, v .1, place),
+    )
 
 abbrev pub RequestIn : List ℕ → ℕ → Type 0
-RequestIn s p = (afterRequest s p ≤ length s) × RequestedKnown s (p + 2)
+RequestIn s p = afterRequest s p ≤ length s
 
 moved-list : {s : List ℕ} {p t : ℕ} {xs : List ℕ} {q : ℕ} → p ≡ t → Listed s p xs q → Listed s t xs q
 moved-list e h = rw e at h
@@ -212,18 +142,18 @@ request-one s p a q e =
     let f = then-got half _ s p a q e in
     let m = half-read s p (f .0) (f .1) (f .2) in
     let g = then-got readRequested _ s (f .1) a q (f .3) in
-    let r = moved-requested (m .next) (requested-one s (f .1) (g .0) (g .1) (g .2)) in
+    let r = requested-one s (f .1) (g .0) (g .1) (g .2) in
     let h = then-got (byteCounted half) _ s (g .1) a q (g .3) in
-    let place : g .1 ≡ p + 15 = omega (arith, r .end) in
+    let place : g .1 ≡ p + 15 = omega (arith, r .1, m .next) in
     let x = moved-list place (list-one s (g .1) (h .0) (h .1) (h .2)) in
     let k = then-got (byteCounted half) _ s (h .1) a q (h .3) in
     let y = moved-list (x .end) (list-one s (h .1) (k .0) (k .1) (k .2)) in
     let same : a ≡ record { most = f .0; attributes = g .0; families = h .0; fallbacks = k .0 } = cc (k .3) in
     let last : q ≡ k .1 = cc (k .3) in
     record {
-      value = same ∙ entry (m .value) (r .attributes) (x .values) (y .values);
+      value = same ∙ entry (m .value) (r .0 ∙ ap (requestedAt s) (m .next)) (x .values) (y .values);
       end = last ∙ y .end;
-      known = (rw (y .end) at (y .inside), r .known);
+      known = rw (y .end) at (y .inside);
     }
 
 -- ---- entries of a section

@@ -12,21 +12,21 @@ use Rattle.font.specs.declared.font.FontInfo.{FontInfo}
 use Rattle.font.specs.Tables.{u16At}
 use Rattle.matching.specs.declared.order.Request.{Request}
 use Rattle.matching.specs.Matching.{requestOf}
-use Rattle.query.specs.declared.offers.Offer.{Offer}
+use Rattle.query.specs.declared.answer.Offer.{Offer}
 use Rattle.query.specs.declared.offers.Offered.{Offered}
 use Rattle.query.specs.declared.offers.Offered.the-variants.{At, Past}
 use Rattle.query.specs.Reader.{got}
 use Rattle.query.specs.Job.{Job, readJob, checkJob}
-use Rattle.query.specs.Offers.{Faces, facesOf, facesOfLists, offers, offerAt, pick, offerOf, familiesAt, membersAt, listAt, fallbacksAt, Small}
-use Rattle.query.specs.Sheet.{afterOverrides, fontOf, heldOf, membersOf, familiesOf, offersOf, faceOfOffer}
+use Rattle.query.specs.Offers.{Faces, facesOfLists, offers, offerAt, offerOf, familiesAt, membersAt, listAt, fallbacksAt, Small}
+use Rattle.query.specs.Sheet.{afterOverrides, fontOf, membersOf, offersOf, faceOfOffer}
 use Rattle.query.specs.Located.{familyPlace, overridesPlace, familiesPlace, requestedAt}
 use Rattle.query.specs.Load.{facePlace, fontAt, overridesAt, Fonts, Loaded, Replaced, LaidOut}
 use Rattle.query.specs.Call.{requestOfJob}
 use Rattle.query.specs.Found.{Placed, Agrees, Lies, Told, Names, Named}
 use Rattle.query.proofs.Picked.{pick-in, pick-past}
 use Rattle.query.proofs.Listed.{offers-sound}
-use Rattle.query.proofs.Glued.{Laid, laid, families-count, families-few, requests-count, small, offered, same-members, member-is, members-below}
-use Rattle.query.proofs.Called.{accepted-job}
+use Rattle.query.proofs.Glued.{laid, families-count, families-few, requests-count, small, offered, same-members, member-is, members-below}
+use Rattle.query.proofs.AcceptedJobs.{check-accepts}
 use Rattle.query.proofs.Loaded.{accepted-laid, face-count, offered-is, loaded-agrees}
 
 -- the offer of a number is that of the list
@@ -42,7 +42,7 @@ in-list list n o e = go (ltb n (length list)) refl
 
 module _ (s : List ℕ) (accepted : checkJob s .refusal ≡ 0) where
   the : (j : Job) × (e : ℕ) × (readJob s ≡ got j e)
-  the = accepted-job s accepted
+  the = check-accepts s accepted
 
   lay : LaidOut s (the .0)
   lay = accepted-laid s (the .0) (the .1) (the .2)
@@ -82,7 +82,7 @@ module _ (s : List ℕ) (section : ℕ) (positions : List ℕ) (placed : Placed 
     -- what `request_offer` asks
     pub to-offer : Small s positions families
     to-offer =
-        let a = accepted-job s (placed .accepted) in
+        let a = check-accepts s (placed .accepted) in
         rw (as-many (a .0) (a .1) (a .2)) (small s (a .0) (a .1) (laid s (a .0) (a .1) (a .2)) positions (loaded-there (a .0) (a .1) (a .2)))
 
     module _ (at n most : ℕ) (cut : most ≡ u16At s at) (a : Attributes) (wanted : a ≡ requestedAt s (at + 2)) (w : Request) (made : w ≡ requestOf a true)
@@ -124,7 +124,7 @@ module _ (s : List ℕ) (section : ℕ) (positions : List ℕ) (placed : Placed 
   module _ (o : Offer) (there : Names s o) where
     pub family-few : o .family < 64
     family-few =
-        let a = accepted-job s (placed .accepted) in
+        let a = check-accepts s (placed .accepted) in
         omega (arith, there .family (a .0) (a .1) (a .2), families-few s (a .0) (a .1) (laid s (a .0) (a .1) (a .2)))
 
     module _ (i : ℕ) (number : i ≡ u16At s (getD positions (o .family) 0 + 2 + 2 * o .place)) where

@@ -1,6 +1,6 @@
 -- From an accepted job to its offers: where its sections lie, that the loaded positions have its families and its requests, and that the
 -- offers look at no more than these and the faces of the job.
-use Prim.Native.Nat.{ℕ, zero, suc, _+_, _*_, _≤_, _<_}
+use Prim.Native.Nat.{ℕ, _+_, _*_, _≤_, _<_}
 use mathlib.Core.Path.{_≡_, refl, sym, ap, _∙_}
 use mathlib.Core.Bool.{Bool, true, false, cond}
 use mathlib.Core.List.{List, [], _∷_, _++_, map}
@@ -12,20 +12,19 @@ use Rattle.font.specs.Tables.{u16At}
 use Rattle.matching.specs.declared.order.Request.{Request}
 use Rattle.matching.specs.Order.{Face}
 use Rattle.matching.specs.Matching.{requestOf, blank}
-use Rattle.query.specs.declared.offers.Offer.{Offer}
-use Rattle.query.specs.Reader.{overlong, bytesLeft, Got, refused, got, _>>=_, ended}
+use Rattle.query.specs.Reader.{overlong, bytesLeft, Got, refused, got, ended}
 use Rattle.query.specs.Fields.{counted}
 use Rattle.query.specs.Entries.{Family, readFace, readOverride, readFamily, readRequest}
 use Rattle.query.specs.Entries as Entry
 use Rattle.query.specs.Job.{Job, atEnd, readSections, readJob}
 use Rattle.query.specs.Offers.{Faces, Families, facesOf, groupOf, familyOffers, offerOf, numberOffers, inTurn, offers, membersAt, familiesAt, listAt, fallbacksAt, Small}
 use Rattle.query.specs.Sheet.{fontOf, heldOf, membersOf, familiesOf, offersOf}
-use Rattle.query.specs.Located.{placeOf, afterFamily, familyPlace, overridesPlace, familiesPlace, requestsPlace, familyAt, FamilyKnown, afterRequest, requestPlace, requestedAt, RequestedKnown, requestAt}
+use Rattle.query.specs.Located.{afterFamily, familyPlace, overridesPlace, familiesPlace, requestsPlace, familyAt, FamilyKnown, afterRequest, requestPlace, requestedAt, requestAt}
 use Rattle.query.specs.Found.{SameFaces}
 use Rattle.query.proofs.Ends.{then-got}
-use Rattle.query.proofs.Leaves.{counted-length, count-read}
+use Rattle.query.proofs.Leaves.{counted-length}
 use Rattle.query.proofs.Gathered.{numbers-length, number-at}
-use Rattle.query.proofs.Runs.{Run, run-in, grows, request-grows, request-in, place-first}
+use Rattle.query.proofs.Runs.{run-in, request-in}
 use Rattle.query.proofs.Entered.{FamilyIn, RequestIn, Section, families-read, requests-read, count-few}
 
 -- ---- where the sections lie
@@ -160,20 +159,17 @@ module _ (s : List ℕ) (j : Job) (e : ℕ) (l : Laid s j e) where
   members-are f b =
       ap (λ (x : Family). x .members) (of-families .entries .each f (record { members = [] }) (omega (arith, families-count)))
 
-  -- what `request_at` and `requested` ask
+  -- what `request_at` asks
   pub requests-count : length (j .requests) ≡ u16At s (requestsPlace s)
   requests-count = of-requests .count
 
   pub request-is : (k : ℕ) (d : Entry.Request) → k < length (j .requests) → getD (j .requests) k d ≡ requestAt s (requestPlace s (requestsPlace s + 2) k)
   request-is k d b = of-requests .entries .each k d (omega (arith, requests-count))
 
-  pub request-known : (k : ℕ) → k < length (j .requests) → RequestedKnown s (requestPlace s (requestsPlace s + 2) k + 2)
-  request-known k b = of-requests .entries .known k (omega (arith, requests-count)) .1
-
   -- what `request_offer` asks
   pub request-inside : (k : ℕ) → k < length (j .requests)
       → (requestPlace s (requestsPlace s + 2) k + 15 < length s) × (fallbacksAt s (requestPlace s (requestsPlace s + 2) k + 15) < length s)
-  request-inside k b = request-in s (requestPlace s (requestsPlace s + 2) k) (of-requests .entries .known k (omega (arith, requests-count)) .0)
+  request-inside k b = request-in s (requestPlace s (requestsPlace s + 2) k) (of-requests .entries .known k (omega (arith, requests-count)))
 
   module _ (positions : List ℕ) (loaded : Loaded s (familiesPlace s + 2) (length (j .families)) positions) where
     pub small : Small s positions (length (j .families))

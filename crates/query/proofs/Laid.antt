@@ -16,18 +16,17 @@ use Rattle.font.specs.declared.overrides.FontInfoOverride.{FontInfoOverride}
 use Rattle.font.specs.declared.overrides.WidthOverride.the-variants as Width
 use Rattle.font.specs.declared.overrides.StyleOverride.the-variants as Style
 use Rattle.font.specs.declared.overrides.WeightOverride.the-variants as Weight
-use Rattle.font.specs.Single.{acceptedRatio}
 use Rattle.font.specs.Tables.{u32At}
 use Rattle.font.specs.Reading.{bit}
 use Rattle.font.specs.Font.{fromFontRef}
 use Rattle.query.specs.Reader.{Refusal, pastEnd, Reader, refused, got, done, _>>=_}
 use Rattle.query.specs.Fields.{byte, word, ratio, value, byteCounted, heldByte, faceNumber, mask, kind, spareByte, spareWord, orSpare, fontRefusal, fontBytes, fontTaken, fontAt, fontFile}
 use Rattle.query.specs.Entries.{Face, Pair, Override, readFace, styleOfKind, readAngle, readStyle, readWidth, readWeight, styleOrSpare, readGiven, readPair, readOverride}
-use Rattle.query.specs.Located.{placeOf}
-use Rattle.query.specs.Load.{runOf, faceAt, faceEnd, numberAt, styleAt, givenAt, pairAt, pairEnd, overrideAt, overrideEnd}
+use Rattle.query.specs.Located.{placeOf, numberAt, styleAt}
+use Rattle.query.specs.Load.{runOf, faceAt, faceEnd, givenAt, pairAt, pairEnd, overrideAt, overrideEnd}
 use Rattle.query.proofs.Ends.{then-got}
 use Rattle.query.proofs.Leaves.{byte-read, word-read, ratio-read, value-read, held-read, face-number-read, mask-read, kind-read, spare-byte-read, spare-word-read}
-use Rattle.query.proofs.Singles.{ratio-finite}
+use Rattle.query.proofs.Singles.{accepted-finite}
 use Rattle.query.proofs.Loads.{number-is}
 use Rattle.query.proofs.Ordered.{many-run}
 
@@ -108,19 +107,12 @@ face-taken s p f q e =
 number-laid : (s : List ℕ) (p : ℕ) (x : Float) → x ≡ ofBits binary32 (u32At s p) → finite x ≡ true → x ≡ numberAt s p
 number-laid s p x e f = e ∙ number-is s p (u32At s p) refl (rw e at f)
 
-ratio-has : (x : Float) → acceptedRatio x ≡ true → finite x ≡ true
-ratio-has x a = go (finite x) refl
-  where
-    go : (b : Bool) → finite x ≡ b → b ≡ true
-    go true e = refl
-    go false e = ratio-finite x e ∙ a
-
-ratio-laid : (s : List ℕ) (p : ℕ) (x : Float) (q : ℕ) → ratio s p ≡ got x q → (x ≡ numberAt s p) × (q ≡ p + 4)
+pub ratio-laid : (s : List ℕ) (p : ℕ) (x : Float) (q : ℕ) → ratio s p ≡ got x q → (x ≡ numberAt s p) × (q ≡ p + 4)
 ratio-laid s p x q e =
     let r = ratio-read s p x q e in
-    (number-laid s p x (r .value) (ratio-has x (r .passed)), r .next)
+    (number-laid s p x (r .value) (accepted-finite x (r .passed)), r .next)
 
-value-laid : (s : List ℕ) (p : ℕ) (x : Float) (q : ℕ) → value s p ≡ got x q → (x ≡ numberAt s p) × (q ≡ p + 4)
+pub value-laid : (s : List ℕ) (p : ℕ) (x : Float) (q : ℕ) → value s p ≡ got x q → (x ≡ numberAt s p) × (q ≡ p + 4)
 value-laid s p x q e =
     let r = value-read s p x q e in
     (number-laid s p x (r .value) (r .passed), r .next)
@@ -143,7 +135,7 @@ or-spare-laid none r f s p each false w q e =
     let end : q ≡ a .1 = cc in
     (cc, end ∙ x .next)
 
-style-laid : (s : List ℕ) (p : ℕ) (x : FontStyle) (q : ℕ) → readStyle s p ≡ got x q → (x ≡ styleAt s p) × (q ≡ p + 5)
+pub style-laid : (s : List ℕ) (p : ℕ) (x : FontStyle) (q : ℕ) → readStyle s p ≡ got x q → (x ≡ styleAt s p) × (q ≡ p + 5)
 unfolding readStyle readAngle done styleAt
 style-laid s p x q e =
     let a = then-got kind _ s p x q e in

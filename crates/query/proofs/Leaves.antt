@@ -1,6 +1,6 @@
 -- What is known of each field that was read: its value, the next position, that it lies in the job, and that it passed its test.
-use Prim.Native.Nat.{ℕ}
-use mathlib.Core.Path.{_≡_, _∙_}
+use Prim.Native.Nat.{ℕ, _+_, _-_, _≤_, _<_}
+use mathlib.Core.Path.{_≡_, refl, sym, ap, _∙_}
 use mathlib.Core.Bool.{Bool, true, false, cond}
 use mathlib.Core.List.{List}
 use lib.ListN.{length, getD}
@@ -10,9 +10,9 @@ use lib.Ieee.Scale.{finite}
 use Rattle.font.specs.Single.{acceptedRatio}
 use Rattle.font.specs.Tables.{u16At, u32At}
 use Rattle.query.specs.declared.fields.At.{At}
-use Rattle.query.specs.Reader.{Reader, overLimit, notHeld, noFace, unknown, badNumber, got, done, _>>=_, many, ended}
+use Rattle.query.specs.Reader.{Reader, Got, refused, overLimit, notHeld, noFace, unknown, badNumber, got, done, _>>=_, many, ended}
 use Rattle.query.specs.Fields.{byte, half, word, single, ratio, value, count, counted, heldByte, faceNumber, mask, kind, spareByte, spareWord, orSpare}
-use Rattle.query.proofs.Ends.{Read, field-read, tested-read, ends, then-got, many-length}
+use Rattle.query.proofs.Ends.{number-nonzero, Read, field-read, tested-read, ends, then-got, many-length, many-goes}
 
 abbrev pub byteAt : List ℕ → ℕ → ℕ
 byteAt s p = getD s p 0
@@ -54,6 +54,20 @@ held-read s p a q e = tested-read notHeld (λ b. leb b 1) 1 byteAt s p a q e
 pub face-number-read : (n : ℕ) (s : List ℕ) (p a q : ℕ) → faceNumber n s p ≡ got a q → Read 2 u16At (λ i. ltb i n) s p a q
 unfolding faceNumber half
 face-number-read n s p a q e = tested-read noFace (λ i. ltb i n) 2 u16At s p a q e
+
+-- where a face number that is not refused ends
+pub face-number-ends : (n : ℕ) (s : List ℕ) (p : ℕ) {a : At} → a ≡ ended (faceNumber n s p) → a .refusal ≡ 0 → (a .at ≡ p + 2) × (p + 2 ≤ length s)
+unfolding ended
+face-number-ends n s p {a} = go (faceNumber n s p) refl
+  where
+    go : (g : Got ℕ) → faceNumber n s p ≡ g → a ≡ ended g → a .refusal ≡ 0 → (a .at ≡ p + 2) × (p + 2 ≤ length s)
+    go (refused w q) read e z = absurd (number-nonzero w (sym (ap (λ (x : At). x .refusal) e) ∙ z))
+    go (got i q) read e z = let r = face-number-read n s p i q read in (ap (λ (x : At). x .at) e ∙ r .next, r .inside)
+
+pub face-number-goes : (n k : ℕ) (s : List ℕ) (p : ℕ) {a : At} → 0 < k → a ≡ ended (faceNumber n s p) → a .refusal ≡ 0
+    → ended (many (k - 1) (faceNumber n) s (p + 2)) ≡ ended (many k (faceNumber n) s p)
+face-number-goes n k s p l read z =
+    ap (λ (q : ℕ). ended (many (k - 1) (faceNumber n) s q)) (sym (face-number-ends n s p read z .0)) ∙ many-goes (faceNumber n) k s p l read z
 
 pub mask-read : (s : List ℕ) (p a q : ℕ) → mask s p ≡ got a q → Read 1 byteAt (λ m. leb m 7) s p a q
 unfolding mask byte

@@ -1,5 +1,4 @@
 -- The list of offers is no longer than the most; each family in it is one of the job, each place one of that family, and the face there is held.
--- And section 7's example of two faces.
 use Prim.Native.Nat.{ℕ, zero, suc, _+_, _-_, _≤_, _<_}
 use mathlib.Core.Path.{_≡_, refl, sym, _∙_, ap, subst}
 use mathlib.Core.Bool.{Bool, true, false, not, _&&_, cond}
@@ -13,7 +12,7 @@ use Rattle.matching.specs.declared.order.Request.{Request}
 use Rattle.matching.specs.Below.{placesBelow}
 use Rattle.matching.specs.Order.{choice}
 use Rattle.matching.proofs.Below.{both}
-use Rattle.query.specs.declared.offers.Offer.{Offer}
+use Rattle.query.specs.declared.answer.Offer.{Offer}
 use Rattle.query.specs.Offers.{Group, Faces, Families, equalFaces, heldEqual, offersDefault, defaultPlace, defaultOffers, familyOffers, groupOf, offerOf, numberOffers, inTurn, offers}
 
 -- a property of every element

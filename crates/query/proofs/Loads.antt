@@ -21,8 +21,8 @@ use Rattle.font.specs.Font.{fromFontRef, statesAxis}
 use Rattle.font.proofs.FaceOf.{accepted-face}
 use Rattle.matching.specs.Matching.{styleNumber, hasAxis, slnt}
 use Rattle.query.specs.Entries.{styleOfKind}
-use Rattle.query.specs.Located.{placeOf}
-use Rattle.query.specs.Load.{faceAt, faceEnd, facePlace, fontAt, numberAt, styleAt, Whole, Loaded}
+use Rattle.query.specs.Located.{placeOf, numberAt, styleAt}
+use Rattle.query.specs.Load.{faceAt, faceEnd, facePlace, fontAt, Whole, Loaded}
 use Rattle.query.proofs.Ordered.{stored}
 use Rattle.query.proofs.Stated.{stated}
 

@@ -24,8 +24,8 @@ use Rattle.matching.specs.Matching.{styleNumber}
 use Rattle.matching.proofs.Ranks.{Tri, low, same, high, tri}
 use Rattle.query.specs.Entries.{Override}
 use Rattle.query.specs.Sheet.{overriddenBy, afterOverrides}
-use Rattle.query.specs.Located.{placeOf}
-use Rattle.query.specs.Load.{runOf, numberAt, styleAt, givenAt, overrideAt, overrideEnd, overridePlace, overridesAt, Numbers, Long, Replaced}
+use Rattle.query.specs.Located.{placeOf, numberAt, styleAt}
+use Rattle.query.specs.Load.{runOf, givenAt, overrideAt, overrideEnd, overridePlace, overridesAt, Numbers, Long, Replaced}
 
 -- ---- what the mask chooses
 

@@ -6,7 +6,7 @@ use mathlib.Core.List.{List}
 use native.Mathlib.Omega.{arith}
 use lib.Dec.{eqb}
 use lib.ListN.{length, getD}
-use borrow.Author.Tests.{eq-eqb, ne-eqb, eqb-true}
+use borrow.Author.Tests.{eq-eqb, eqb-true}
 use Rattle.font.specs.Tables.{u16At}
 use Rattle.query.specs.declared.job.Places.{Places}
 use Rattle.query.specs.Reader.{got}
@@ -15,8 +15,9 @@ use Rattle.query.specs.Offers.{fallbacksAt}
 use Rattle.query.specs.Located.{familyPlace, overridesPlace, familiesPlace, requestsPlace, requestPlace}
 use Rattle.query.specs.Found.{placesOf, Placed, Inside, Lies}
 use Rattle.query.specs.Call.{withoutOffer, answerCall}
-use Rattle.query.proofs.Called.{accepted-job, no-request}
-use Rattle.query.proofs.Glued.{Laid, laid, families-count, families-few, families-end, families-inside, families-start, requests-count, requests-start, request-known, request-inside}
+use Rattle.query.proofs.AcceptedJobs.{check-accepts}
+use Rattle.query.proofs.Called.{no-request}
+use Rattle.query.proofs.Glued.{Laid, laid, families-count, families-few, families-end, families-inside, families-start, requests-count, requests-start, request-inside}
 
 -- ---- what the walk answers
 
@@ -43,7 +44,7 @@ module _ (s : List ℕ) (p : Places) (walked : p ≡ placesOf s) where
 
 module _ (s : List ℕ) (accepted : checkJob s .refusal ≡ 0) where
   the : (j : Job) × (e : ℕ) × (readJob s ≡ got j e)
-  the = accepted-job s accepted
+  the = check-accepts s accepted
 
   lay : Laid s (the .0) (the .1)
   lay = laid s (the .0) (the .1) (the .2)
@@ -105,9 +106,4 @@ module _ (s : List ℕ) (accepted : checkJob s .refusal ≡ 0) where
             lists = rw at-is (request-inside s (the .0) (the .1) lay k within)
 
             pub inside : Inside s at
-            inside =
-                record {
-                  known = rw at-is (request-known s (the .0) (the .1) lay k within);
-                  lists = lists .0;
-                  fallbacks = lists .1;
-                }
+            inside = record { lists = lists .0; fallbacks = lists .1 }

@@ -11,7 +11,7 @@ use lib.Seq.{drop-cons}
 use borrow.Author.Tests.{lt-ltb, ltb-true, ltb-false}
 use Rattle.query.specs.declared.cursor.Cursor.{Cursor}
 use Rattle.query.specs.Offers.{pick}
-use Rattle.query.specs.declared.call.Answer.{Answer}
+use Rattle.query.specs.declared.answer.Answer.{Answer}
 use Rattle.query.specs.Call.{answerCall}
 use Rattle.query.specs.Cursor.{fresh, after, isOffer, stepped, run}
 use Rattle.query.proofs.Picked.{pick-in, pick-past}

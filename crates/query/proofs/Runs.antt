@@ -7,7 +7,7 @@ use native.Mathlib.Numerals.{add-one}
 use native.Mathlib.Decide.{le-ind}
 use lib.ListN.{length, getD}
 use Rattle.font.specs.Tables.{u16At}
-use Rattle.query.specs.Reader.{Reader, got, done, _>>=_, many}
+use Rattle.query.specs.Reader.{Reader, got, done, many}
 use Rattle.query.specs.Offers.{fallbacksAt}
 use Rattle.query.specs.Located.{placeOf, afterFamily, afterRequest}
 use Rattle.query.proofs.Ends.{then-got}

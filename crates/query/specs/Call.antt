@@ -1,6 +1,6 @@
 -- Section 6: the offer call: "job, request, offer number, 40-byte output".
 use Prim.Native.Nat.{ℕ}
-use mathlib.Core.Bool.{Bool, true, false, cond}
+use mathlib.Core.Bool.{false, cond}
 use mathlib.Core.List.{List, []}
 use mathlib.Core.Path.{_≡_}
 use lib.Dec.{ltb, eqb}
@@ -10,10 +10,10 @@ use Rattle.font.specs.declared.charmap.CharmapIndex.{CharmapIndex}
 use Rattle.font.specs.Attributes.{defaultAttributes}
 use Rattle.matching.specs.declared.synthesis.Synthesis.{Synthesis}
 use Rattle.matching.specs.Synthesis.{unvaried}
-use Rattle.query.specs.declared.offers.Offer.{Offer}
+use Rattle.query.specs.declared.answer.Offer.{Offer}
 use Rattle.query.specs.declared.offers.Offered.{Offered}
 use Rattle.query.specs.declared.offers.Offered.the-variants.{At, Past}
-use Rattle.query.specs.declared.call.Answer.{Answer}
+use Rattle.query.specs.declared.answer.Answer.{Answer}
 use Rattle.query.specs.Reader.{number, Got, refused, got}
 use Rattle.query.specs.Entries.{Request}
 use Rattle.query.specs.Job.{Job, readJob}

@@ -1,23 +1,22 @@
 -- Section 6 by position: what the steps of an offer call hand on, from the walk through the job to the offer and its face.
 use Prim.Native.Nat.{ℕ, _+_, _<_}
 use mathlib.Core.Path.{_≡_}
-use mathlib.Core.Bool.{Bool, cond}
+use mathlib.Core.Bool.{cond}
 use mathlib.Core.List.{List}
 use lib.Dec.{eqb}
 use lib.ListN.{length, getD}
 use Rattle.font.specs.Tables.{u16At}
-use Rattle.font.specs.declared.attributes.Attributes.{Attributes}
 use Rattle.font.specs.declared.font.FontInfo.{FontInfo}
 use Rattle.query.specs.declared.job.Places.{Places}
-use Rattle.query.specs.declared.offers.Offer.{Offer}
+use Rattle.query.specs.declared.answer.Offer.{Offer}
 use Rattle.query.specs.declared.offers.Offered.{Offered}
 use Rattle.query.specs.declared.offers.Offered.the-variants.{At}
-use Rattle.query.specs.declared.call.Answer.{Answer}
+use Rattle.query.specs.declared.answer.Answer.{Answer}
 use Rattle.query.specs.Reader.{ended, got}
 use Rattle.query.specs.Job.{Job, readSections, readJob, checkJob}
 use Rattle.query.specs.Offers.{Faces, facesOf, offerAt, fallbacksAt}
 use Rattle.query.specs.Sheet.{fontOf, heldOf, membersOf, offersOf, faceOfOffer}
-use Rattle.query.specs.Located.{familyPlace, overridesPlace, familiesPlace, requestsPlace, requestPlace, RequestedKnown}
+use Rattle.query.specs.Located.{familyPlace, overridesPlace, familiesPlace, requestsPlace, requestPlace}
 use Rattle.query.specs.Call.{requestOfJob, answerCall}
 
 -- ---- the walk through a job
@@ -46,7 +45,6 @@ pub record Placed (s : List ℕ) (section : ℕ) (positions : List ℕ) : Type 0
 
 -- a request lies whole in the job
 pub record Inside (s : List ℕ) (at : ℕ) : Type 0 where
-  pub known : RequestedKnown s (at + 2)
   pub lists : at + 15 < length s
   pub fallbacks : fallbacksAt s (at + 15) < length s
 

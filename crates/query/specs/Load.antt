@@ -5,26 +5,22 @@ use mathlib.Core.Bool.{Bool, false, cond}
 use mathlib.Core.List.{List, [], _∷_, map}
 use lib.ListN.{length, getD, take, drop}
 use lib.Dec.{eqb}
-use lib.Ieee.{Float, binary32, ofBits}
-use lib.Ieee.Scale.{finite}
-use Rattle.font.specs.declared.attributes.Angle.the-variants.{Unstated, Degrees}
-use Rattle.font.specs.declared.attributes.FontStyle.{FontStyle}
 use Rattle.font.specs.declared.font.AxisInfo.{AxisInfo}
 use Rattle.font.specs.declared.font.FontInfo.{FontInfo}
 use Rattle.font.specs.declared.overrides.FontInfoOverride.{FontInfoOverride}
 use Rattle.font.specs.declared.overrides.WidthOverride.the-variants as Width
 use Rattle.font.specs.declared.overrides.StyleOverride.the-variants as Style
 use Rattle.font.specs.declared.overrides.WeightOverride.the-variants as Weight
-use Rattle.font.specs.Single.{single, orderKey, wholePercent}
+use Rattle.font.specs.Single.{orderKey, wholePercent}
 use Rattle.font.specs.Tables.{u16At, u32At}
 use Rattle.font.specs.Reading.{bit}
 use Rattle.font.specs.Font.{fromFontRef}
 use Rattle.font.specs.Overrides.{setDefaults}
 use Rattle.matching.specs.Matching.{styleNumber, hasAxis, slnt}
-use Rattle.query.specs.Entries.{Face, Pair, Override, styleOfKind}
+use Rattle.query.specs.Entries.{Face, Pair, Override}
 use Rattle.query.specs.Job.{Job}
 use Rattle.query.specs.Sheet.{afterOverrides}
-use Rattle.query.specs.Located.{placeOf, overridesPlace}
+use Rattle.query.specs.Located.{placeOf, overridesPlace, numberAt, styleAt}
 
 -- ---- entries one after another, where `next` gives the position after an entry
 
@@ -49,14 +45,6 @@ unfoldable pub fontAt : List ℕ → ℕ → FontInfo
 fontAt s p = fromFontRef (faceAt s p .font) .font
 
 -- ---- overrides: "16-bit face, mask byte, ratio, style, weight, axis pair count byte, pairs of tag and value"
-
--- "32-bit single bits"; an accepted job has finite numbers alone, and 0 stands for others
-unfoldable pub numberAt : List ℕ → ℕ → Float
-numberAt s p = cond (finite (ofBits binary32 (u32At s p))) (ofBits binary32 (u32At s p)) (single 0)
-
--- "A style is a kind byte .. and angle"
-unfoldable pub styleAt : List ℕ → ℕ → FontStyle
-styleAt s p = styleOfKind (getD s p 0) (cond (eqb (getD s p 0) 3) (Degrees (numberAt s (p + 1))) Unstated)
 
 -- "mask byte (1 width, 2 style, 4 weight)"
 unfoldable pub givenAt : List ℕ → ℕ → FontInfoOverride

@@ -1,16 +1,14 @@
 -- Section 6 by position: where the families and the requests of a job lie, and what stands there.
 use Prim.Native.Nat.{ℕ, zero, suc, _+_, _*_, _≤_, _<_}
-use mathlib.Core.Path.{_≡_}
-use mathlib.Core.Bool.{Bool, true, cond}
+use mathlib.Core.Bool.{cond}
 use mathlib.Core.List.{List}
 use lib.Dec.{eqb}
 use lib.Ieee.{Float, binary32, ofBits}
 use lib.Ieee.Scale.{finite}
-use lib.ListN.{length, getD}
-use Rattle.font.specs.Single.{acceptedRatio}
+use lib.ListN.{getD}
+use Rattle.font.specs.Single.{single}
 use Rattle.font.specs.Tables.{u16At, u32At}
 use Rattle.font.specs.Attributes.{attributesOf}
-use Rattle.font.specs.declared.attributes.Angle.{Angle}
 use Rattle.font.specs.declared.attributes.Angle.the-variants.{Unstated, Degrees}
 use Rattle.font.specs.declared.attributes.FontStyle.{FontStyle}
 use Rattle.font.specs.declared.attributes.Attributes.{Attributes}
@@ -64,28 +62,17 @@ afterRequest job at = fallbacksAt job (fallbacksAt job (at + 15))
 abbrev pub requestPlace : List ℕ → ℕ → ℕ → ℕ
 requestPlace job = placeOf (afterRequest job)
 
--- "Ratio, angle, weight and values are 32-bit single bits."
-unfoldable pub singleAt : List ℕ → ℕ → Float
-singleAt job at = ofBits binary32 (u32At job at)
+-- "Ratio, angle, weight and values are 32-bit single bits." An accepted job has finite numbers alone, and 0 stands for others
+unfoldable pub numberAt : List ℕ → ℕ → Float
+numberAt s p = cond (finite (ofBits binary32 (u32At s p))) (ofBits binary32 (u32At s p)) (single 0)
 
 -- "A style is a kind byte (0 normal, 1 italic, 2 oblique unstated, 3 stated) and angle, zero unless kind 3."
 unfoldable pub styleAt : List ℕ → ℕ → FontStyle
-styleAt job at = styleOfKind (getD job at 0) (cond (eqb (getD job at 0) 3) (Degrees (singleAt job (at + 1))) Unstated)
+styleAt s p = styleOfKind (getD s p 0) (cond (eqb (getD s p 0) 3) (Degrees (numberAt s (p + 1))) Unstated)
 
 -- "ratio, style, weight"
 unfoldable pub requestedAt : List ℕ → ℕ → Attributes
-requestedAt job at = attributesOf (singleAt job at) (styleAt job (at + 4)) (singleAt job (at + 9))
-
--- a style and a request's numbers as an accepted job has them: "Weights, angles and axis values are finite; width ratios are 0 to 16."
-pub record StyleKnown (job : List ℕ) (at : ℕ) : Type 0 where
-  pub inside : at + 5 ≤ length job
-  pub angle : getD job at 0 ≡ 3 → finite (singleAt job (at + 1)) ≡ true
-
-pub record RequestedKnown (job : List ℕ) (at : ℕ) : Type 0 where
-  pub inside : at + 13 ≤ length job
-  pub width : acceptedRatio (singleAt job at) ≡ true
-  pub style : StyleKnown job (at + 4)
-  pub weight : finite (singleAt job (at + 9)) ≡ true
+requestedAt job at = attributesOf (numberAt job at) (styleAt job (at + 4)) (numberAt job (at + 9))
 
 unfoldable pub requestAt : List ℕ → ℕ → Request
 requestAt job at =

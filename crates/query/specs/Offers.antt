@@ -1,6 +1,6 @@
 -- Section 6: the offers of a request.
 use Prim.Native.Nat.{ℕ, zero, suc, _+_, _*_, _≤_, _<_}
-use mathlib.Core.Bool.{Bool, true, false, not, _&&_, cond}
+use mathlib.Core.Bool.{Bool, false, not, _&&_, cond}
 use mathlib.Core.List.{List, [], _∷_, _++_, map}
 use lib.Dec.{ltb, eqb}
 use lib.ListN.{length, getD, take}
@@ -13,10 +13,8 @@ use Rattle.matching.specs.declared.order.Request.{Request}
 use Rattle.matching.specs.Order.{Face, Family, choice, faceOfLists, familyOfLists}
 use Rattle.matching.specs.Below.{placesBelow}
 use Rattle.matching.specs.Matching.{faceOf, blank, requestOf}
-use Rattle.query.specs.declared.offers.Offer.{Offer}
-use Rattle.query.specs.declared.offers.FamilyOffer.{FamilyOffer}
+use Rattle.query.specs.declared.answer.Offer.{Offer}
 use Rattle.query.specs.declared.offers.FamilyOffer.the-variants as Family'
-use Rattle.query.specs.declared.offers.ListOffer.{ListOffer}
 use Rattle.query.specs.declared.offers.ListOffer.the-variants as List'
 use Rattle.query.specs.declared.offers.Offered.{Offered}
 use Rattle.query.specs.declared.offers.Offered.the-variants as Offered'

@@ -1,5 +1,5 @@
 -- Section 6: the 40 bytes of an offer. "Job and output are big-endian".
-use Prim.Native.Nat.{ℕ, _-_, _/_, _%_}
+use Prim.Native.Nat.{ℕ, _-_}
 use mathlib.Core.Bool.{Bool, true, false, cond}
 use mathlib.Core.List.{List, [], _∷_, _++_}
 use lib.Dec.{ltb}
@@ -8,15 +8,10 @@ use lib.Ieee.{Float, nan, binary32, toBits, isNan}
 use lib.ListN.{getD}
 use Rattle.font.specs.declared.charmap.CharmapIndex.{CharmapIndex}
 use Rattle.matching.specs.declared.synthesis.Synthesis.{Synthesis}
-use Rattle.query.specs.declared.offers.Offer.{Offer}
+use Rattle.query.specs.declared.answer.Offer.{Offer}
+use Rattle.query.specs.Layout.{bytes16, bytes32}
 
--- fields of 2 and 4 bytes, and a flag of one
-unfoldable pub half : ℕ → List ℕ
-half x = x / 256 ∷ x % 256 ∷ []
-
-unfoldable pub word : ℕ → List ℕ
-word x = half (x / 65536) ++ half (x % 65536)
-
+-- a flag of one byte
 unfoldable pub flag : Bool → ℕ
 flag true = 1
 flag false = 0
@@ -33,11 +28,11 @@ valueBits x = cond (isNan x) 0 (toBits binary32 x)
 -- "family and place (16-bit), embolden, skew (two's complement), setting count, zero (bytes)"
 unfoldable pub headBytes : Offer → Bool → ℤ → ℕ → List ℕ
 headBytes offer embolden skew count =
-    half (offer .family) ++ (half (offer .place) ++ (flag embolden ∷ twosComplement skew ∷ count ∷ 0 ∷ []))
+    bytes16 (offer .family) ++ (bytes16 (offer .place) ++ (flag embolden ∷ twosComplement skew ∷ count ∷ 0 ∷ []))
 
 -- "tag-and-value slots (unused zero)"
 unfoldable pub slotBytes : Bool → ℕ → Float → List ℕ
-slotBytes used tag value = word (cond used tag 0) ++ word (cond used (valueBits value) 0)
+slotBytes used tag value = bytes32 (cond used tag 0) ++ bytes32 (cond used (valueBits value) 0)
 
 unfoldable pub slotAt : ℕ → List ℕ → List Float → ℕ → List ℕ
 slotAt count tags values i = slotBytes (ltb i count) (getD tags i 0) (getD values i nan)
@@ -45,7 +40,7 @@ slotAt count tags values i = slotBytes (ltb i count) (getD tags i 0) (getD value
 -- "cmap offset (32-bit), symbol, Mac Roman, two zero bytes"
 unfoldable pub indexBytes : CharmapIndex → List ℕ
 indexBytes index =
-    word (index .«subtable_offset») ++ (flag (index .«is_symbol») ∷ flag (index .«is_mac_roman») ∷ 0 ∷ 0 ∷ [])
+    bytes32 (index .«subtable_offset») ++ (flag (index .«is_symbol») ∷ flag (index .«is_mac_roman») ∷ 0 ∷ 0 ∷ [])
 
 unfoldable pub recordBytes : Offer → Synthesis → CharmapIndex → List ℕ
 recordBytes offer s index =

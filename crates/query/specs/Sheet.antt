@@ -10,8 +10,8 @@ use Rattle.font.specs.Overrides.{withOverride}
 use Rattle.matching.specs.declared.synthesis.Synthesis.{Synthesis}
 use Rattle.matching.specs.Matching.{requestOf}
 use Rattle.matching.specs.Synthesis.{synthesized, variesOf}
-use Rattle.query.specs.declared.offers.Offer.{Offer}
-use Rattle.query.specs.Entries.{Face, Pair, Override, Family, Request}
+use Rattle.query.specs.declared.answer.Offer.{Offer}
+use Rattle.query.specs.Entries.{Face, Pair, Override, Request}
 use Rattle.query.specs.Job.{Job}
 use Rattle.query.specs.Offers.{Families, facesOf, offers}
 

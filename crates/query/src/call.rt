@@ -8,11 +8,12 @@ ghost use Rattle.matching.specs.Synthesis.{synthesized, variesOf};
 ghost use Rattle.query.specs.Located.{familiesPlace, requestedAt};
 ghost use Rattle.query.specs.Found.{Placed, Inside, Told, Names, Named, Answers};
 ghost use Rattle.query.specs.Call.{withoutOffer, withSynthesis, answerCall, offerCall, Calls};
+use crate::answer::Answer;
+use crate::answer::Offer;
 use crate::job;
 use crate::load;
 use crate::located;
 use crate::offers;
-use crate::offers::Offer;
 use crate::offers::Offered;
 use crate::record;
 use font::attributes::Attributes;
@@ -23,15 +24,6 @@ use matching::face;
 use matching::matching::request_of;
 use matching::synthesis;
 use matching::synthesis::Synthesis;
-
-// What is answered to a request and an offer number: 0 and the offer with its synthesis and charmap index, 1 past the list, or a refusal.
-// Beside all but 0 stand zeros.
-pub struct Answer {
-    pub result: u32,
-    pub offer: Offer,
-    pub synthesis: Synthesis,
-    pub charmap_index: CharmapIndex,
-}
 
 fn without_offer(result: u32) -> Answer
     ensures { λ r. ⌜ r ≡ withoutOffer result ⌝ }

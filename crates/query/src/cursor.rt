@@ -1,8 +1,8 @@
 // The offer cursor, which each step consumes and returns.
 ghost use mathlib.Core.Path.{_≡_};
 ghost use Rattle.query.specs.Cursor.{fresh, after, stepped};
+use crate::answer::Answer;
 use crate::call;
-use crate::call::Answer;
 
 // A request and the number of its next offer. Any two numbers make a cursor.
 pub struct Cursor {

@@ -138,6 +138,7 @@ pub(crate) fn override_entry(job: &[u8], at: usize, faces: u16) -> At
     pairs(job, given.at)
 }
 
+// The place goes on by itself, and does not wait for the number that was read.
 fn face_number_run(job: &[u8], at: usize, count: usize, faces: u16) -> At
     ensures { λ r. ⌜ r ≡ ended (many count (faceNumber faces) (now (job .entry)) at) ⌝ }
 {
@@ -148,7 +149,7 @@ fn face_number_run(job: &[u8], at: usize, count: usize, faces: u16) -> At
         if next.refusal != 0 {
             return next;
         }
-        place = next.at;
+        place += 2;
         left -= 1;
     }
     At {

@@ -1,4 +1,5 @@
 // Jobs and offers: the job's layout and refusals, the check call, the offers of a request, the cursor, and the exported calls.
+pub mod answer;
 pub mod call;
 pub mod cursor;
 mod entries;
@@ -7,6 +8,6 @@ mod fields;
 pub mod job;
 mod load;
 mod located;
-pub mod offers;
+mod offers;
 mod record;
 mod sections;

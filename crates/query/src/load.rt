@@ -8,10 +8,11 @@ ghost use Rattle.query.specs.Sheet.{overriddenBy, afterOverrides};
 ghost use Rattle.query.specs.Job.{checkJob};
 ghost use Rattle.query.specs.Offers.{facesOfLists};
 ghost use Rattle.query.specs.Located.{overridesPlace};
-ghost use Rattle.query.specs.Load.{runOf, faceAt, facePlace, fontAt, numberAt, styleAt, givenAt, pairAt, pairEnd, withAxes, afterPairs, overrideAt, overrideEnd, overridesAt, Long, Whole, Fonts, Loaded, Replaced};
+ghost use Rattle.query.specs.Load.{runOf, faceAt, facePlace, fontAt, givenAt, pairAt, pairEnd, withAxes, afterPairs, overrideAt, overrideEnd, overridesAt, Long, Whole, Fonts, Loaded, Replaced};
 ghost use Rattle.query.specs.Found.{Agrees};
 use crate::fields;
-use font::attributes::Angle;
+use crate::located::number_at;
+use crate::located::style_at;
 use font::attributes::FontStyle;
 use font::attributes::FontWeight;
 use font::attributes::FontWidth;
@@ -101,36 +102,6 @@ pub(crate) fn face_at(job: &[u8], number: usize) -> usize
         i += 1;
     }
     place
-}
-
-// The number whose bits lie at a position, or 0 where they are of none.
-fn number_at(job: &[u8], at: usize) -> f32
-    ensures { λ r. ⌜ r ≡ numberAt (now (job .entry)) at ⌝ }
-{
-    let bits = tables::u32_at(job, at);
-    if fields::finite_bits(bits) {
-        f32::from_bits(bits)
-    } else {
-        0.0
-    }
-}
-
-// Kind and angle.
-fn style_at(job: &[u8], at: usize) -> FontStyle
-    requires { ⌜ at + 1 < 2 ^ 64 ⌝ }
-    ensures { λ r. ⌜ r ≡ styleAt (now (job .entry)) at ⌝ }
-{
-    let kind = fields::byte_at(job, at);
-    if kind == 0 {
-        return FontStyle::Normal;
-    }
-    if kind == 1 {
-        return FontStyle::Italic;
-    }
-    if kind == 3 {
-        return FontStyle::Oblique(Angle::Degrees(number_at(job, at + 1)));
-    }
-    FontStyle::Oblique(Angle::Unstated)
 }
 
 fn either(given: bool, new: u32, own: u32) -> u32

@@ -1,12 +1,10 @@
 // Where the families and the requests of an accepted job lie, and a request's attributes.
 ghost use mathlib.Core.Path.{_≡_};
-ghost use mathlib.Core.Bool.{true};
-ghost use Prim.Native.Nat.{ℕ, _+_, _*_, _≤_, _<_};
+ghost use Prim.Native.Nat.{ℕ, _+_, _*_, _^_, _≤_, _<_};
 ghost use lib.ListN.{length, getD};
-ghost use lib.Ieee.Scale.{finite};
 ghost use Rattle.font.specs.Tables.{u16At};
 ghost use Rattle.query.specs.Offers.{fallbacksAt};
-ghost use Rattle.query.specs.Located.{familyPlace, requestPlace, singleAt, styleAt, StyleKnown, requestedAt, RequestedKnown};
+ghost use Rattle.query.specs.Located.{familyPlace, requestPlace, numberAt, styleAt, requestedAt};
 use crate::fields;
 use crate::offers;
 use font::attributes::Angle;
@@ -53,17 +51,21 @@ pub(crate) fn request_at(job: &[u8], at: usize, number: usize) -> usize
     place
 }
 
-// The single whose bits lie at a position.
-fn single_at(job: &[u8], at: usize) -> f32
-    requires { ⌜ finite (singleAt (now job) at) ≡ true ⌝ }
-    ensures { λ r. ⌜ r ≡ singleAt (now (job .entry)) at ⌝ }
+// The number whose bits lie at a position, or 0 where they are of none.
+pub(crate) fn number_at(job: &[u8], at: usize) -> f32
+    ensures { λ r. ⌜ r ≡ numberAt (now (job .entry)) at ⌝ }
 {
-    f32::from_bits(tables::u32_at(job, at))
+    let bits = tables::u32_at(job, at);
+    if fields::finite_bits(bits) {
+        f32::from_bits(bits)
+    } else {
+        0.0
+    }
 }
 
 // Kind and angle.
-fn style_at(job: &[u8], at: usize) -> FontStyle
-    requires { ⌜ StyleKnown (now job) at ⌝ }
+pub(crate) fn style_at(job: &[u8], at: usize) -> FontStyle
+    requires { ⌜ at + 1 < 2 ^ 64 ⌝ }
     ensures { λ r. ⌜ r ≡ styleAt (now (job .entry)) at ⌝ }
 {
     let kind = fields::byte_at(job, at);
@@ -74,19 +76,19 @@ fn style_at(job: &[u8], at: usize) -> FontStyle
         return FontStyle::Italic;
     }
     if kind == 3 {
-        return FontStyle::Oblique(Angle::Degrees(single_at(job, at + 1)));
+        return FontStyle::Oblique(Angle::Degrees(number_at(job, at + 1)));
     }
     FontStyle::Oblique(Angle::Unstated)
 }
 
 // Ratio, style and weight of a request.
 pub(crate) fn requested(job: &[u8], at: usize) -> Attributes
-    requires { ⌜ RequestedKnown (now job) at ⌝ }
+    requires { ⌜ at + 13 ≤ length (now job) ⌝ }
     ensures { λ r. ⌜ r ≡ requestedAt (now (job .entry)) at ⌝ }
 {
-    let width = FontWidth::new(single_at(job, at));
+    let width = FontWidth::new(number_at(job, at));
     let style = style_at(job, at + 4);
-    let weight = FontWeight::new(single_at(job, at + 9));
+    let weight = FontWeight::new(number_at(job, at + 9));
     Attributes::new(width, style, weight)
 }
 

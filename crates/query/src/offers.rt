@@ -8,17 +8,12 @@ ghost use Rattle.font.specs.Tables.{u16At};
 ghost use Rattle.matching.specs.Below.{placesBelow};
 ghost use Rattle.matching.specs.Order.{familyOfLists};
 ghost use Rattle.query.specs.Offers.{pick, equalFaces, defaultPlace, defaultOffers, familyOffers, groupOfLists, facesOfLists, groupOf, numbersAt, Small, familiesAt, numberOffers, inTurn, listAt, fallbacksAt, offers, offerAt};
+use crate::answer::Offer;
 use font::attributes::Attributes;
 use font::tables;
 use matching::matching::request_of;
 use matching::order::Request;
 use matching::stages;
-
-// A family's number and a place in it.
-pub struct Offer {
-    pub family: u16,
-    pub place: u16,
-}
 
 // The place of a family's offer, or how far past the family's offers the number lies.
 pub enum FamilyOffer {

@@ -3,8 +3,9 @@ ghost use mathlib.Core.Path.{_≡_};
 ghost use mathlib.Core.List.{[], _∷_, _++_};
 ghost use Prim.Native.Nat.{_+_, _^_, _≤_, _<_};
 ghost use lib.ListN.{length, take};
-ghost use Rattle.query.specs.Record.{half, word, flag, twosComplement, valueBits, headBytes, slotBytes, indexBytes, recordBytes};
-use crate::offers::Offer;
+ghost use Rattle.query.specs.Layout.{bytes16, bytes32};
+ghost use Rattle.query.specs.Record.{flag, twosComplement, valueBits, headBytes, slotBytes, indexBytes, recordBytes};
+use crate::answer::Offer;
 use font::charmap::CharmapIndex;
 use matching::synthesis::Synthesis;
 
@@ -18,7 +19,7 @@ fn put_byte(out: &mut [u8], at: usize, x: u8)
 
 fn put_half(out: &mut [u8], at: usize, x: u16)
     requires { ⌜ at + 2 ≤ length (now out) ⌝ }
-    ensures { λ _. ⌜ take (at + 2) (now (out .exit)) ≡ take at (now (out .entry)) ++ half x ⌝ }
+    ensures { λ _. ⌜ take (at + 2) (now (out .exit)) ≡ take at (now (out .entry)) ++ bytes16 x ⌝ }
 {
     put_byte(&mut *out, at, (x / 256) as u8);
     put_byte(&mut *out, at + 1, (x % 256) as u8);
@@ -26,7 +27,7 @@ fn put_half(out: &mut [u8], at: usize, x: u16)
 
 fn put_word(out: &mut [u8], at: usize, x: u32)
     requires { ⌜ at + 4 ≤ length (now out) ⌝ }
-    ensures { λ _. ⌜ take (at + 4) (now (out .exit)) ≡ take at (now (out .entry)) ++ word x ⌝ }
+    ensures { λ _. ⌜ take (at + 4) (now (out .exit)) ≡ take at (now (out .entry)) ++ bytes32 x ⌝ }
 {
     put_half(&mut *out, at, (x / 65536) as u16);
     put_half(&mut *out, at + 2, (x % 65536) as u16);

@@ -40,7 +40,7 @@ pub fn head(mac_style: u16) -> Vec<u8> {
 }
 
 /// One axis as it stands in `fvar`: 16.16 numbers.
-#[derive(Copy, Clone)]
+#[derive(Copy, Clone, PartialEq, Eq, Debug)]
 pub struct FixedAxis {
     pub tag: [u8; 4],
     pub min: u32,

@@ -18,6 +18,18 @@ pub enum Expected {
 
 use Expected::{Accepted, Refused, Unknown};
 
+impl Expected {
+    /// Whether an answer, 0 for an accepted job, can be the right one.
+    pub fn allows(self, number: u32, position: usize) -> bool {
+        let font = (21..=23).contains(&number);
+        match self {
+            Unknown => true,
+            Accepted => number == 0 || font,
+            Refused(n, at) => (number, position) == (n, at) || (font && position < at),
+        }
+    }
+}
+
 /// Other bytes for one field.
 #[derive(Clone, PartialEq, Eq, Debug)]
 pub struct Way {

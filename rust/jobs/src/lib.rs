@@ -5,6 +5,7 @@
 
 pub mod bytes;
 pub mod damage;
+pub mod families;
 pub mod fonts;
 pub mod generate;
 pub mod layout;

@@ -28,6 +28,31 @@ pub fn made() -> Vec<Case> {
     list.0
 }
 
+/// Most bytes of a job.
+const BYTES: usize = 16_777_216;
+
+/// Jobs of the most bytes, and of one more: an accepted one, and zeros. Large,
+/// so not among those for a purpose.
+pub fn largest() -> Vec<Case> {
+    let mut list = List(Vec::new());
+    let mut job = Job {
+        faces: vec![face(400), face(700)],
+        families: vec![vec![0, 1]],
+        requests: vec![request(1.0, 700.0)],
+        ..Job::default()
+    };
+    let more = BYTES - write(&job).bytes.len();
+    let size = job.faces[1].font.len() + more;
+    job.faces[1].font.resize(size, 0);
+    list.accepted("the most bytes", &job);
+    job.faces[1].font.push(0);
+    list.refused("a byte over the most", &job, 17, 0);
+    list.add("the most zeros", (vec![0; BYTES], Expected::Refused(27, 8)));
+    let over = vec![0; BYTES + 1];
+    list.add("a zero over the most", (over, Expected::Refused(17, 0)));
+    list.0
+}
+
 /// Random jobs without an end.
 pub fn random(seed: u64) -> impl Iterator<Item = Case> {
     let mut r = Random::new(seed);
@@ -635,6 +660,12 @@ mod tests {
         assert!(one.iter().all(|bytes| bytes.len() <= 65_536));
         assert!(one == all(1));
         assert!(one != all(2));
+    }
+
+    #[test]
+    fn sizes_of_the_largest() {
+        let sizes: Vec<usize> = largest().iter().map(|case| case.bytes.len()).collect();
+        assert_eq!(sizes, [BYTES, BYTES + 1, BYTES, BYTES + 1]);
     }
 
     /// What is written is read back as the same parts.

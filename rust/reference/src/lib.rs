@@ -22,6 +22,7 @@ pub use source_cache::SourceCache;
 
 pub(crate) use core::sync::atomic::AtomicU64 as AtomicCounter;
 
+pub mod call;
 pub mod describe;
 pub mod families;
 pub mod fonts;

@@ -13,15 +13,15 @@ use std::{
 
 use jobs::{
     damage::Expected,
-    layout::{self, Job, Request, Style},
+    layout::{self, Job, Request},
     list::Case,
 };
 use plain::offers::OUTPUT;
-use read_fonts::{FontRef, types::Tag};
+use read_fonts::FontRef;
 
 use crate::{
-    Attributes, CharmapIndex, Collection, FamilyId, FamilyInfo, FontInfo, FontInfoOverride,
-    FontStyle, FontWeight, FontWidth, QueryStatus, SourceCache, describe,
+    Attributes, CharmapIndex, Collection, FamilyId, FamilyInfo, FontInfo, FontWeight, FontWidth,
+    QueryStatus, SourceCache, describe, families,
     family_name::{FamilyName, FamilyNameMap},
     source::{SourceId, SourceInfo, SourceKind},
 };
@@ -149,6 +149,14 @@ impl Harness {
         Ok(lines)
     }
 
+    /// The records of every request's offers by the original, of a job that is accepted.
+    pub fn records(&self, bytes: &[u8]) -> Result<Vec<Vec<[u8; OUTPUT]>>, String> {
+        let job = layout::parts(bytes);
+        let mut original = self.original(&job)?;
+        let of_request = |request| original.offers(request).iter().map(record).collect();
+        Ok(job.requests.iter().map(of_request).collect())
+    }
+
     /// The original's families of a job.
     fn original(&self, job: &Job) -> Result<Original, String> {
         let mut faces = Vec::new();
@@ -163,18 +171,7 @@ impl Harness {
             faces.push(info);
         }
         for given in &job.overrides {
-            let pairs: Vec<(Tag, f32)> = given
-                .pairs
-                .iter()
-                .map(|(tag, bits)| (Tag::new(tag), f32::from_bits(*bits)))
-                .collect();
-            faces[usize::from(given.face)].apply_override(&FontInfoOverride {
-                family_name: None,
-                width: given.ratio.map(width),
-                style: given.style.map(style),
-                weight: given.weight.map(weight),
-                axes: Some(&pairs),
-            });
+            families::apply(&mut faces[usize::from(given.face)], given);
         }
         let mut original = Original {
             collection: Collection::default(),
@@ -227,7 +224,7 @@ impl Original {
         query.set_fallbacks(Collection::fallback_key());
         query.set_attributes(Attributes::new(
             width(request.ratio),
-            style(request.style),
+            families::style(request.style),
             weight(request.weight),
         ));
         query.matches_with(|font| {
@@ -267,15 +264,6 @@ fn width(bits: u32) -> FontWidth {
 
 fn weight(bits: u32) -> FontWeight {
     FontWeight::new(f32::from_bits(bits))
-}
-
-fn style(style: Style) -> FontStyle {
-    match style.kind {
-        0 => FontStyle::Normal,
-        1 => FontStyle::Italic,
-        2 => FontStyle::Oblique(None),
-        _ => FontStyle::Oblique(Some(f32::from_bits(style.angle))),
-    }
 }
 
 fn offer_of_plain(offer: &plain::Offer) -> Offer {
@@ -332,8 +320,8 @@ impl Lines {
 }
 
 /// The 40 bytes of an offer, in the order of section 6.
-fn record(offer: &Offer) -> Vec<u8> {
-    let mut out = Vec::new();
+fn record(offer: &Offer) -> [u8; OUTPUT] {
+    let mut out = Vec::with_capacity(OUTPUT);
     out.extend(offer.family.to_be_bytes());
     out.extend(offer.place.to_be_bytes());
     out.push(offer.embolden as u8);
@@ -348,7 +336,7 @@ fn record(offer: &Offer) -> Vec<u8> {
     let (offset, symbol, mac) = offer.charmap;
     out.extend(offset.to_be_bytes());
     out.extend([symbol as u8, mac as u8, 0, 0]);
-    out
+    out.try_into().expect("40 bytes")
 }
 
 /// The plain offer call against a list: its first, its last, one past it.
@@ -360,9 +348,9 @@ fn calls(bytes: &[u8], request: u32, list: &[Offer]) -> Result<(), String> {
         let answer = plain::offer(bytes, request, number, &mut out);
         let expected = match list.get(number as usize) {
             Some(offer) => (0, record(offer)),
-            None => (1, untouched.to_vec()),
+            None => (1, untouched),
         };
-        if (answer, &out[..]) != (expected.0, &expected.1[..]) {
+        if (answer, out) != expected {
             return Err(format!(
                 "the call for request {request}, offer {number}: {answer} {out:02x?}"
             ));
@@ -382,16 +370,9 @@ fn refused_calls(bytes: &[u8], number: u32) -> Result<(), String> {
     Ok(())
 }
 
-/// Whether the answer is the one that is known by how the job was built. A
-/// font that is refused and stands before comes first.
+/// Whether the answer is the one that is known by how the job was built.
 fn known(number: u32, position: usize, expected: Expected) -> Result<(), String> {
-    let font = (21..=23).contains(&number);
-    let agrees = match expected {
-        Expected::Unknown => true,
-        Expected::Accepted => number == 0 || font,
-        Expected::Refused(n, at) => (number, position) == (n, at) || (font && position < at),
-    };
-    if agrees {
+    if expected.allows(number, position) {
         return Ok(());
     }
     Err(format!(
@@ -401,7 +382,7 @@ fn known(number: u32, position: usize, expected: Expected) -> Result<(), String>
 
 /// Whether the original accepts every font that the plain reading accepted
 /// on its way, and refuses the one that it refused.
-fn fonts_agree(bytes: &[u8], number: u32, position: usize) -> Result<(), String> {
+pub fn fonts_agree(bytes: &[u8], number: u32, position: usize) -> Result<(), String> {
     let end = if number == 0 { usize::MAX } else { position };
     let read16 = |at: usize| {
         bytes

@@ -16,7 +16,7 @@ fn every_stored_job_is_answered_as_stored() {
     assert!(jobs.len() > 1000, "the list has {} jobs", jobs.len());
     let mut rest = answers.as_str();
     for (number, job) in jobs.into_iter().enumerate() {
-        let text = common::text(job);
+        let text = common::indexed_text(job);
         let Some(after) = rest.strip_prefix(text.as_str()) else {
             let stored: Vec<&str> = rest.lines().take(text.lines().count()).collect();
             panic!(

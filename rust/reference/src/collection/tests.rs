@@ -3,9 +3,11 @@
 use std::{path::Path, sync::Arc};
 
 use super::*;
+use jobs::{families::FacePlan, layout::Style};
+
 use crate::{
     Attributes, FontInfo, FontStyle, FontWeight, FontWidth,
-    families::{FacePlan, make},
+    families::make,
     family_name::FamilyNameMap,
     source::{SourceId, SourceInfo, SourceKind},
 };
@@ -13,7 +15,7 @@ use crate::{
 fn face(weight: f32) -> FontInfo {
     make(&FacePlan {
         ratio: 1.0,
-        style: FontStyle::Normal,
+        style: Style::default(),
         weight,
         axes: Vec::new(),
     })

@@ -41,6 +41,15 @@ pub fn skip(test: &str, lack: &str) {
 
 /// What the program `offers` prints for a job.
 pub fn text(bytes: &[u8]) -> String {
+    lines(bytes, false)
+}
+
+/// What the program `offer_cases` prints for a job: the same, with the charmap index after the skew.
+pub fn indexed_text(bytes: &[u8]) -> String {
+    lines(bytes, true)
+}
+
+fn lines(bytes: &[u8], indexed: bool) -> String {
     let job = match Job::new(bytes) {
         Ok(job) => job,
         Err(refused) => {
@@ -53,15 +62,24 @@ pub fn text(bytes: &[u8]) -> String {
     for request in 0..job.requests() {
         for offer in job.offers(request).expect("the request is in the job") {
             write!(text, "{request} ").expect("a string takes text");
-            text += &line(&offer);
+            text += &line(&offer, indexed);
         }
     }
     text
 }
 
-fn line(offer: &Offer) -> String {
+fn line(offer: &Offer, indexed: bool) -> String {
     let bold = if offer.embolden { 'b' } else { '-' };
     let mut line = format!("{} {} {bold} {}", offer.family, offer.place, offer.skew);
+    if indexed {
+        let index = offer.charmap;
+        line += &format!(
+            " {} {} {}",
+            index.offset,
+            u8::from(index.symbol),
+            u8::from(index.mac_roman)
+        );
+    }
     for setting in &offer.settings {
         line += &format!(" {}={:08x}", setting.tag, setting.value.to_bits());
     }

@@ -5,19 +5,25 @@ use Rattle.output.proofs.lines.print_request.Statement.{statement}
 use Rattle.output.proofs.lines.print_request.Tie as tie
 
 abbrev Inv-loop : tie.InvT-loop
-Inv-loop job request indexed n₀ n = Unit {0}
+Inv-loop job request indexed cursor₀ n₀ cursor n = Unit {0}
 
 abbrev μ-loop : tie.MeasureT-loop
-μ-loop job request indexed n₀ n = 65536 - n
+μ-loop job request indexed cursor₀ n₀ cursor n = 65536 - n
+
+new-requires : tie.Need-new-requires Inv-loop μ-loop
+new-requires c κs = search needs
 
 loop-holds : tie.Need-loop-holds Inv-loop μ-loop
 loop-holds c = search needs
 
-print-numbered-requires : tie.Need-print-numbered-requires Inv-loop μ-loop
-print-numbered-requires c κs = search needs
+step-requires : tie.Need-step-requires Inv-loop μ-loop
+step-requires c κs = search needs
 
 returns : tie.Need-returns Inv-loop μ-loop
 returns c = search needs
+
+print-offer-requires : tie.Need-print-offer-requires Inv-loop μ-loop
+print-offer-requires c κs = search needs
 
 add-n : tie.Need-add-n Inv-loop μ-loop
 add-n c = search needs
@@ -37,9 +43,11 @@ print-request-spec =
     (tie.spec
     Inv-loop
     μ-loop
+    new-requires
     loop-holds
-    print-numbered-requires
+    step-requires
     returns
+    print-offer-requires
     add-n
     loop-less
     loop-again

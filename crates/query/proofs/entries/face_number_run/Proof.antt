@@ -5,7 +5,8 @@ use mathlib.Core.Path.{_≡_, refl, _∙_}
 use native.Mathlib.Omega.{arith}
 use Rattle.query.specs.Reader.{ended, many}
 use Rattle.query.specs.Fields.{faceNumber}
-use Rattle.query.proofs.Ends.{many-stops, many-goes, many-over}
+use Rattle.query.proofs.Leaves.{face-number-ends, face-number-goes}
+use Rattle.query.proofs.Ends.{many-stops, many-over}
 use borrow.Author.Needs.{needs}
 use Rattle.query.proofs.entries.face_number_run.Statement.{statement}
 use Rattle.query.proofs.entries.face_number_run.Tie as tie
@@ -26,6 +27,9 @@ returns : tie.Need-returns Inv-loop μ-loop
 returns c = let more : 0 < c .before .before .before .before .loop .left = omega arith in
     many-stops _ _ _ _ more (c .before .before .face-number .ensures) (c .if1 .taken) ∙ c .before .before .before .before .loop .inv
 
+add-place : tie.Need-add-place Inv-loop μ-loop
+add-place c = omega (arith, face-number-ends _ _ _ (c .before .before .face-number .ensures) (c .if1 .left) .1)
+
 sub-left : tie.Need-sub-left Inv-loop μ-loop
 sub-left c = omega arith
 
@@ -34,7 +38,7 @@ loop-less c = omega arith
 
 loop-again : tie.Need-loop-again Inv-loop μ-loop
 loop-again c = let more : 0 < c .before .before .before .before .loop .left = omega arith in
-    many-goes _ _ _ _ more (c .before .before .face-number .ensures) (c .if1 .left) ∙ c .before .before .before .before .loop .inv
+    face-number-goes _ _ _ _ more (c .before .before .face-number .ensures) (c .if1 .left) ∙ c .before .before .before .before .loop .inv
 
 returns-2 : tie.Need-returns-2 Inv-loop μ-loop
 returns-2 c = let over : c .before .loop .left ≤ 0 = omega arith in
@@ -49,6 +53,7 @@ face-number-run-spec =
     loop-holds
     face-number-requires
     returns
+    add-place
     sub-left
     loop-less
     loop-again

@@ -3,7 +3,7 @@
 use lib.Dec.{eqb}
 use Rattle.matching.specs.Matching.{slnt}
 use Prim.Native.Nat.{ℕ, _+_, _*_, _-_, _≤_}
-use mathlib.Core.Path.{_≡_, refl, ap, _∙_}
+use mathlib.Core.Path.{_≡_, refl, ap}
 use native.Mathlib.Omega.{arith}
 use borrow.Author.Needs.{needs}
 use Rattle.query.specs.Located.{placeOf}

@@ -1,7 +1,7 @@
 -- `query::load::load_overrides` meets its contract. The invariant: the lists are those after the overrides passed.
 -- Assumes nothing.
 use Prim.Native.Nat.{_+_, _*_, _-_, _≤_}
-use mathlib.Core.Path.{_≡_, refl, ap, _∙_}
+use mathlib.Core.Path.{_≡_, refl, _∙_}
 use native.Mathlib.Omega.{arith}
 use Rattle.query.specs.Located.{placeOf}
 use Rattle.query.specs.Load.{overridePlace, overridesAt, Replaced}

@@ -1,6 +1,5 @@
 -- `query::located::after_list` meets its contract.
 -- Assumes nothing.
-use Prim.Native.Nat.{_+_, _*_}
 use native.Mathlib.Omega.{arith}
 use borrow.Author.Needs.{needs}
 use Rattle.query.specs.Offers.{fallbacksAt}

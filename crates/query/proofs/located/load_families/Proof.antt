@@ -1,15 +1,15 @@
 -- `query::located::load_families` meets its contract. The loop's invariant: `place` is the next family's, and each family passed has its position in
 -- the array. The measure is the number of families left.
 -- Assumes nothing.
-use Prim.Native.Nat.{ℕ, _+_, _-_, _≤_, _<_}
-use mathlib.Core.Path.{_≡_, refl, sym, ap, _∙_}
+use Prim.Native.Nat.{ℕ, _-_, _≤_, _<_}
+use mathlib.Core.Path.{_≡_, sym, ap, _∙_}
 use native.Mathlib.Omega.{arith}
 use borrow.Author.Needs.{needs}
 use borrow.Author.Count.{below-more}
-use lib.ListN.{length, getD, set, length-set}
+use lib.ListN.{length, getD, length-set}
 use lib.Seq.{getD-set-same, getD-set-other}
 use denote.Ref.{now}
-use Rattle.query.specs.Located.{placeOf, afterFamily, familyPlace}
+use Rattle.query.specs.Located.{afterFamily, familyPlace}
 use Rattle.query.proofs.Runs.{place-first, grows, family-grows, family-next}
 use Rattle.query.proofs.located.load_families.Statement.{statement}
 use Rattle.query.proofs.located.load_families.Tie as tie

@@ -1,14 +1,12 @@
 -- `query::located::request_at` meets its contract. The loop's invariant: `place` is the position of the request `i`. The measure is the number of
 -- requests left to skip.
 -- Assumes nothing.
-use Prim.Native.Nat.{ℕ, _+_, _-_, _≤_, _<_}
-use mathlib.Core.Path.{_≡_, refl, sym, ap, _∙_}
+use Prim.Native.Nat.{_-_, _≤_}
+use mathlib.Core.Path.{_≡_, sym, ap, _∙_}
 use native.Mathlib.Omega.{arith}
-use borrow.Author.Needs.{needs}
-use lib.ListN.{length, getD}
+use lib.ListN.{length}
 use denote.Ref.{now}
-use Rattle.query.specs.Offers.{fallbacksAt}
-use Rattle.query.specs.Located.{placeOf, afterRequest, requestPlace}
+use Rattle.query.specs.Located.{afterRequest, requestPlace}
 use Rattle.query.proofs.Runs.{place-first, within, request-grows, request-next, request-in}
 use Rattle.query.proofs.located.request_at.Statement.{statement}
 use Rattle.query.proofs.located.request_at.Tie as tie

@@ -1,20 +1,19 @@
 -- `query::located::requested` meets its contract.
 -- Assumes nothing.
-use mathlib.Core.Path.{_≡_, refl, sym, ap, _∙_}
+use mathlib.Core.Path.{_≡_, _∙_}
 use lib.Ieee.{Float}
 use Rattle.font.specs.Attributes.{attributesOf}
 use Rattle.font.specs.declared.attributes.FontStyle.{FontStyle}
 use borrow.Author.Needs.{needs}
 use Rattle.query.specs.Located.{requestedAt}
-use Rattle.query.proofs.Singles.{accepted-finite}
 use Rattle.query.proofs.located.requested.Statement.{statement}
 use Rattle.query.proofs.located.requested.Tie as tie
 
 made : {a b : Float} {x y : FontStyle} {d e : Float} → a ≡ b → x ≡ y → d ≡ e → attributesOf a x d ≡ attributesOf b y e
 made p q r = λ k. attributesOf (p k) (q k) (r k)
 
-single-at-requires : tie.Need-single-at-requires
-single-at-requires c κs = accepted-finite _ (c .before .pre .width)
+number-at-requires : tie.Need-number-at-requires
+number-at-requires c κs = search needs
 
 new-requires : tie.Need-new-requires
 new-requires c κs = search needs
@@ -25,11 +24,11 @@ add-style-at c = search needs
 style-at-requires : tie.Need-style-at-requires
 style-at-requires c κs = search needs
 
-add-single-at : tie.Need-add-single-at
-add-single-at c = search needs
+add-number-at : tie.Need-add-number-at
+add-number-at c = search needs
 
-single-at-requires-2 : tie.Need-single-at-requires-2
-single-at-requires-2 c κs = search needs
+number-at-requires-2 : tie.Need-number-at-requires-2
+number-at-requires-2 c κs = search needs
 
 new-requires-2 : tie.Need-new-requires-2
 new-requires-2 c κs = search needs
@@ -41,20 +40,20 @@ returns : tie.Need-returns
 unfolding requestedAt
 returns c =
     c .new3 .ensures
-    ∙ made (c .before .before .before .before .new .ensures ∙ c .before .before .before .before .before .single-at .ensures)
+    ∙ made (c .before .before .before .before .new .ensures ∙ c .before .before .before .before .before .number-at .ensures)
     (c .before .before .before .style-at .ensures)
-    (c .before .new2 .ensures ∙ c .before .before .single-at2 .ensures)
+    (c .before .new2 .ensures ∙ c .before .before .number-at2 .ensures)
 
 pub requested-spec : {M : Type 1} → statement M
 requested-spec =
     tie.close
     (tie.spec
-    single-at-requires
+    number-at-requires
     new-requires
     add-style-at
     style-at-requires
-    add-single-at
-    single-at-requires-2
+    add-number-at
+    number-at-requires-2
     new-requires-2
     new-requires-3
     returns)

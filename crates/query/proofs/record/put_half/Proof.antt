@@ -4,7 +4,7 @@ use Prim.Native.Nat.{_+_}
 use native.Mathlib.Omega.{arith}
 use denote.Ref.{now}
 use lib.ListN.{take}
-use Rattle.query.specs.Record.{half}
+use Rattle.query.specs.Layout.{bytes16}
 use Rattle.query.proofs.Written.{then-put}
 use borrow.Author.Needs.{needs}
 use Rattle.query.proofs.record.put_half.Statement.{statement}
@@ -29,7 +29,7 @@ same-length : tie.Need-same-length
 same-length c = search needs
 
 returns : tie.Need-returns
-unfolding half
+unfolding bytes16
 returns c = then-put (take (c .before .before .before .before .before .before .before .before .before .args .at) (now (c .before .before .before .before .before .before .before .before .before .args .out))) _ _ _ _ _ (c .before .before .before .before .before .before .before .before .before .args .at + 1) (c .before .before .before .before .before .before .before .before .before .args .at + 1 + 1) (c .before .before .before .before .before .before .before .before .before .args .at + 2) (omega arith) (c .before .before .before .before .before .before .put-byte .ensures) (c .before .before .put-byte2 .ensures) refl
 
 pub put-half-spec : {M : Type 1} → statement M

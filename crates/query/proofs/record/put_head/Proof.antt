@@ -2,7 +2,8 @@
 use mir.Facts.{toZ-ofZ}
 use mathlib.Core.Path.{refl, _∙_, ap}
 use mathlib.Core.List.{[], _∷_}
-use Rattle.query.specs.Record.{half, twosComplement, headBytes}
+use Rattle.query.specs.Layout.{bytes16}
+use Rattle.query.specs.Record.{twosComplement, headBytes}
 use Rattle.query.proofs.Written.{put-on}
 use borrow.Author.Needs.{needs}
 use Rattle.query.proofs.record.put_head.Statement.{statement}
@@ -36,7 +37,7 @@ same-length : tie.Need-same-length
 same-length c = search needs
 
 returns : tie.Need-returns
-unfolding half headBytes
+unfolding bytes16 headBytes
 returns c =
     put-on (c .before .before .put-byte4 .ensures)
     (put-on (c .before .before .before .before .before .before .put-byte3 .ensures)

@@ -1,7 +1,8 @@
 -- `query::record::put_index` meets its contract: one field after the other. Assumes nothing.
 use mathlib.Core.Path.{refl, _∙_, ap}
 use mathlib.Core.List.{[], _∷_, append-assoc}
-use Rattle.query.specs.Record.{half, indexBytes}
+use Rattle.query.specs.Layout.{bytes16}
+use Rattle.query.specs.Record.{indexBytes}
 use Rattle.query.proofs.Written.{put-on}
 use borrow.Author.Needs.{needs}
 use Rattle.query.proofs.record.put_index.Statement.{statement}
@@ -32,7 +33,7 @@ same-length : tie.Need-same-length
 same-length c = search needs
 
 returns : tie.Need-returns
-unfolding half indexBytes
+unfolding bytes16 indexBytes
 returns c =
     put-on (c .before .before .put-half .ensures)
     (put-on (c .before .before .before .before .before .before .put-byte2 .ensures)

@@ -4,7 +4,8 @@ use mathlib.Core.Path.{refl, ap}
 use native.Mathlib.Omega.{arith}
 use lib.ListN.{take}
 use denote.Ref.{now}
-use Rattle.query.specs.Record.{word, slotBytes}
+use Rattle.query.specs.Layout.{bytes32}
+use Rattle.query.specs.Record.{slotBytes}
 use Rattle.query.proofs.Written.{then-put}
 use borrow.Author.Needs.{needs}
 use Rattle.query.proofs.record.put_slot.Statement.{statement}
@@ -40,7 +41,7 @@ returns c =
     let at = c .before .before .before .before .before .before .before .before .before .before .before .args .at in
     rw (c .before .before .before .before .before .before .before .before .before .if1 .taken)
     (then-put (take at (now (c .before .before .before .before .before .before .before .before .before .before .before .args .out))) _ _ _ _ _ (at + 4) (at + 4 + 4) (at + 8) (omega arith)
-    (c .before .before .before .before .before .before .before .put-word .ensures) (c .before .before .put-word2 .ensures) (ap word (c .before .before .before .value-bits .ensures)))
+    (c .before .before .before .before .before .before .before .put-word .ensures) (c .before .before .put-word2 .ensures) (ap bytes32 (c .before .before .before .value-bits .ensures)))
 
 same-length-2 : tie.Need-same-length-2
 same-length-2 c = search needs

@@ -4,7 +4,7 @@ use Prim.Native.Nat.{_+_}
 use native.Mathlib.Omega.{arith}
 use denote.Ref.{now}
 use lib.ListN.{take}
-use Rattle.query.specs.Record.{word}
+use Rattle.query.specs.Layout.{bytes32}
 use Rattle.query.proofs.Written.{then-put}
 use borrow.Author.Needs.{needs}
 use Rattle.query.proofs.record.put_word.Statement.{statement}
@@ -29,7 +29,7 @@ same-length : tie.Need-same-length
 same-length c = search needs
 
 returns : tie.Need-returns
-unfolding word
+unfolding bytes32
 returns c = then-put (take (c .before .before .before .before .before .before .before .before .before .args .at) (now (c .before .before .before .before .before .before .before .before .before .args .out))) _ _ _ _ _ (c .before .before .before .before .before .before .before .before .before .args .at + 2) (c .before .before .before .before .before .before .before .before .before .args .at + 2 + 2) (c .before .before .before .before .before .before .before .before .before .args .at + 4) (omega arith) (c .before .before .before .before .before .before .put-half .ensures) (c .before .before .put-half2 .ensures) refl
 
 pub put-word-spec : {M : Type 1} → statement M

@@ -72,34 +72,44 @@ pub trait TopLevelTable {
     const TAG: Tag;
 }
 
-/// One record of the table directory.
+/// One record of the table directory: tag, checksum, offset, length.
 #[derive(Copy, Clone, Debug)]
-pub struct TableRecord {
-    tag: Tag,
-    offset: u32,
-    length: u32,
-}
+pub struct TableRecord<'a>(&'a [u8; 16]);
 
-impl TableRecord {
+impl TableRecord<'_> {
+    fn field(&self, at: usize) -> [u8; 4] {
+        [self.0[at], self.0[at + 1], self.0[at + 2], self.0[at + 3]]
+    }
+
     pub fn tag(&self) -> Tag {
-        self.tag
+        Tag::new(&self.field(0))
     }
 
     pub fn offset(&self) -> u32 {
-        self.offset
+        u32::from_be_bytes(self.field(8))
     }
 
     pub fn length(&self) -> u32 {
-        self.length
+        u32::from_be_bytes(self.field(12))
+    }
+}
+
+/// The records, read where they stand in the file.
+#[derive(Copy, Clone, Debug)]
+pub struct TableRecords<'a>(&'a [[u8; 16]]);
+
+impl<'a> TableRecords<'a> {
+    pub fn iter(&self) -> impl Iterator<Item = TableRecord<'a>> + use<'a> {
+        self.0.iter().map(TableRecord)
     }
 }
 
 #[derive(Clone, Debug)]
-pub struct TableDirectory(Vec<TableRecord>);
+pub struct TableDirectory<'a>(TableRecords<'a>);
 
-impl TableDirectory {
-    pub fn table_records(&self) -> &[TableRecord] {
-        &self.0
+impl<'a> TableDirectory<'a> {
+    pub fn table_records(&self) -> TableRecords<'a> {
+        self.0
     }
 }
 
@@ -107,7 +117,7 @@ impl TableDirectory {
 #[derive(Clone, Debug)]
 pub struct FontRef<'a> {
     data: FontData<'a>,
-    directory: TableDirectory,
+    directory: TableDirectory<'a>,
 }
 
 impl<'a> FontRef<'a> {
@@ -121,16 +131,19 @@ impl<'a> FontRef<'a> {
         Ok(Self { data, directory })
     }
 
-    pub fn table_directory(&self) -> &TableDirectory {
+    pub fn table_directory(&self) -> &TableDirectory<'a> {
         &self.directory
     }
 
     /// The bytes of the first table with the tag, if it lies in the file and
     /// has at least `needed` bytes.
     fn table(&self, tag: Tag, needed: u64) -> Result<FontData<'a>, ReadError> {
-        let record = self.directory.0.iter().find(|record| record.tag == tag);
-        let found =
-            record.and_then(|record| self.data.part(record.offset as u64, record.length as u64));
+        let mut records = self.directory.0.iter();
+        let record = records.find(|record| record.tag() == tag);
+        let found = record.and_then(|record| {
+            let (offset, length) = (record.offset(), record.length());
+            self.data.part(offset.into(), length.into())
+        });
         match found {
             Some(table) if table.len() as u64 >= needed => Ok(table),
             _ => Err(ReadError::Absent),
@@ -138,23 +151,16 @@ impl<'a> FontRef<'a> {
     }
 }
 
-fn directory(data: FontData<'_>) -> Option<TableDirectory> {
+fn directory(data: FontData<'_>) -> Option<TableDirectory<'_>> {
     let header = data.part(0, 12)?;
     let start = header.u32_at(0)?.to_be_bytes();
     if ![[0, 1, 0, 0], *b"OTTO", *b"true"].contains(&start) {
         return None;
     }
     let count = header.u16_at(4)? as u64;
-    data.part(12, 16 * count)?;
-    let records = (0..count).map(|i| {
-        let record = data.part(12 + 16 * i, 16)?;
-        Some(TableRecord {
-            tag: Tag::from_u32(record.u32_at(0)?),
-            offset: record.u32_at(8)?,
-            length: record.u32_at(12)?,
-        })
-    });
-    records.collect::<Option<Vec<_>>>().map(TableDirectory)
+    let records = data.part(12, 16 * count)?;
+    let (records, _) = records.0.as_chunks();
+    Some(TableDirectory(TableRecords(records)))
 }
 
 /// The tables that the original asks for.

@@ -2,7 +2,7 @@
 -- Assumes nothing.
 use mathlib.Core.Path.{ap, _∙_}
 use lib.Dec.{eqb}
-use Rattle.query.specs.declared.call.Answer.{Answer}
+use Rattle.query.specs.declared.answer.Answer.{Answer}
 use Rattle.query.specs.Cursor.{after, isOffer, stepped}
 use borrow.Author.Needs.{needs}
 use Rattle.query.proofs.cursor.Cursor.step.Statement.{statement}

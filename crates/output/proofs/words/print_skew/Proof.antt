@@ -1,4 +1,4 @@
--- `match_cases::print_skew` is safe: of a skew under zero, -1 - skew is 0 to 127. Assumes nothing.
+-- `output::words::print_skew` is safe: of a skew under zero, -1 - skew is 0 to 127. Assumes nothing.
 use Prim.Native.Nat.{suc, _+_}
 use mathlib.Core.Path.{_≡_, sym, subst}
 use mathlib.Core.Bool.{true, false}
@@ -11,8 +11,8 @@ use lib.Signed.{ltZ, nonNeg, natAbs-le}
 use mir.Syntax.{w8, w64}
 use mir.Val.{Fits, SFits, toZ, ofZ}
 use mir.Facts.{sfits-toZ, fits-ofZ, fits-natAbs, toZ-ofZ}
-use Rattle.match_cases.proofs.print_skew.Statement.{statement}
-use Rattle.match_cases.proofs.print_skew.Tie as tie
+use Rattle.output.proofs.words.print_skew.Statement.{statement}
+use Rattle.output.proofs.words.print_skew.Tie as tie
 
 not-under : (z : ℤ) → ltZ z (pos 0) ≡ false → T (nonNeg z)
 not-under (pos n) h = tt

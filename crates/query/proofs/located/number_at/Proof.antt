@@ -1,4 +1,4 @@
--- `query::load::number_at` meets its contract.
+-- `query::located::number_at` meets its contract.
 -- Assumes nothing.
 use mathlib.Core.Path.{sym, _∙_}
 use lib.Ieee.{ofBits, ofInt, round}
@@ -6,8 +6,8 @@ use Rattle.font.specs.Single.{single}
 use Rattle.query.proofs.Loads.{number-is, number-none}
 use Rattle.query.proofs.Singles.{finite-no-nan}
 use borrow.Author.Needs.{needs}
-use Rattle.query.proofs.load.number_at.Statement.{statement}
-use Rattle.query.proofs.load.number_at.Tie as tie
+use Rattle.query.proofs.located.number_at.Statement.{statement}
+use Rattle.query.proofs.located.number_at.Tie as tie
 
 u32-at-requires : tie.Need-u32-at-requires
 u32-at-requires c κs = search needs

@@ -1,14 +1,14 @@
--- `match_cases::print_settings` is safe and ends: nothing has to hold from turn to turn, and the measure is what is left of 3. Assumes nothing.
+-- `output::words::print_settings` is safe and ends: nothing has to hold from turn to turn, and the measure is what is left of 3. Assumes nothing.
 use Prim.Native.Nat.{_-_}
 use borrow.Author.Needs.{needs}
-use Rattle.match_cases.proofs.print_settings.Statement.{statement}
-use Rattle.match_cases.proofs.print_settings.Tie as tie
+use Rattle.output.proofs.words.print_settings.Statement.{statement}
+use Rattle.output.proofs.words.print_settings.Tie as tie
 
 abbrev Inv-loop : tie.InvT-loop
-Inv-loop len tags values i₀ i = Unit {0}
+Inv-loop synthesis tags values i₀ i = Unit {0}
 
 abbrev μ-loop : tie.MeasureT-loop
-μ-loop len tags values i₀ i = 3 - i
+μ-loop synthesis tags values i₀ i = 3 - i
 
 loop-holds : tie.Need-loop-holds Inv-loop μ-loop
 loop-holds c = search needs

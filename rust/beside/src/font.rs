@@ -1,0 +1,212 @@
+//! Fonts: attributes, axes, charmap index or refusal of the linked program
+//! beside the original, or beside the plain reading where that is not here.
+
+use std::fmt::Write as _;
+
+use jobs::{fonts::random_font, random::Random};
+use plain::font::{self, Angle, Font, Style};
+
+use crate::{
+    job::{hex, numbers},
+    original,
+    program::Program,
+    shrink,
+};
+
+/// The line of a font by the plain reading.
+fn by_plain(bytes: &[u8]) -> String {
+    match font::read(bytes) {
+        Err(number) => format!("refused {number}"),
+        Ok(font) => read_line(&font),
+    }
+}
+
+fn read_line(font: &Font) -> String {
+    let own = &font.attributes;
+    let (kind, angle) = match own.style {
+        Style::Normal => (0, 0),
+        Style::Italic => (1, 0),
+        Style::Oblique(Angle::Unstated) => (2, 0),
+        Style::Oblique(Angle::Degrees(degrees)) => (3, degrees.0),
+    };
+    let mut line = format!(
+        "read {:08x} {kind} {angle:08x} {:08x} {} {} {} {}",
+        own.ratio.0,
+        own.weight.0,
+        font.charmap.offset,
+        u8::from(font.charmap.symbol),
+        u8::from(font.charmap.mac_roman),
+        font.axes.len(),
+    );
+    for axis in &font.axes {
+        let _ = write!(
+            line,
+            " {:08x}={:08x},{:08x},{:08x}",
+            u32::from_be_bytes(axis.tag),
+            axis.minimum.0,
+            axis.default.0,
+            axis.maximum.0,
+        );
+    }
+    line
+}
+
+fn expected(bytes: &[u8]) -> String {
+    original::font(bytes).unwrap_or_else(|| by_plain(bytes))
+}
+
+/// What has been compared.
+#[derive(Default)]
+pub struct Counts {
+    pub fonts: u64,
+    pub read: u64,
+    /// Of those, fonts with axes.
+    pub varying: u64,
+    /// By the table's number.
+    pub refused: [u64; 30],
+}
+
+impl Counts {
+    fn add(&mut self, line: &str) {
+        self.fonts += 1;
+        match line.strip_prefix("refused ") {
+            Some(number) => self.refused[number.parse().unwrap_or(0)] += 1,
+            None => {
+                self.read += 1;
+                self.varying += u64::from(line.contains('='));
+            }
+        }
+    }
+
+    pub fn text(&self) -> String {
+        format!(
+            "fonts {} read {} with axes {} refused{}\n",
+            self.fonts,
+            self.read,
+            self.varying,
+            numbers(&self.refused)
+        )
+    }
+}
+
+/// Compares fonts until so many have been compared.
+pub fn compare(program: &Program, seed: u64, fonts: u64) -> Result<Counts, String> {
+    let mut counts = Counts::default();
+    let mut seeds = Random::new(seed);
+    let mut first = original::fonts(seed);
+    while counts.fonts < fonts {
+        // What did not fit is left: the next chunk has a new seed.
+        let mut r = Random::new(seeds.draw());
+        let random = std::iter::repeat_with(|| random_font(&mut r));
+        let list = std::mem::take(&mut first).into_iter().chain(random);
+        chunk(program, list, fonts, &mut counts)?;
+    }
+    Ok(counts)
+}
+
+fn put(list: &mut Vec<u8>, font: &[u8]) {
+    list.extend((font.len() as u32).to_be_bytes());
+    list.extend(font);
+}
+
+/// As many fonts as the program reads at once, up to so many in all.
+fn chunk(
+    program: &Program,
+    fonts: impl Iterator<Item = Vec<u8>>,
+    most: u64,
+    counts: &mut Counts,
+) -> Result<(), String> {
+    let mut list = Vec::new();
+    let mut asked = Vec::new();
+    for font in fonts {
+        if list.len() + 4 + font.len() > program.most {
+            break;
+        }
+        put(&mut list, &font);
+        asked.push(font);
+        if counts.fonts + asked.len() as u64 >= most {
+            break;
+        }
+    }
+    let lines = program.lines(&list)?;
+    for (i, font) in asked.iter().enumerate() {
+        let expected = expected(font);
+        if lines.get(i) != Some(&expected) {
+            return Err(tell(program, font));
+        }
+        counts.add(&expected);
+    }
+    if lines.len() != asked.len() {
+        return Err(format!(
+            "{}: {} lines for {} fonts",
+            program.name,
+            lines.len(),
+            asked.len()
+        ));
+    }
+    Ok(())
+}
+
+fn printed(program: &Program, font: &[u8]) -> String {
+    let mut list = Vec::new();
+    put(&mut list, font);
+    match program.lines(&list) {
+        Ok(lines) => lines.join("\n"),
+        Err(error) => error,
+    }
+}
+
+/// The shortest font that was found to differ, and what each side says.
+fn tell(program: &Program, font: &[u8]) -> String {
+    let least = shrink::font(font, |font| printed(program, font) != expected(font));
+    format!(
+        "difference in a font of {} bytes: {}\n01 (plain): {}\nthe original: {}\nthe proved code: {}",
+        least.len(),
+        hex(&least),
+        by_plain(&least),
+        original::font(&least).unwrap_or("nothing".into()),
+        printed(program, &least)
+    )
+}
+
+#[cfg(test)]
+mod tests {
+    use super::*;
+    use crate::program::FONT_CASES;
+
+    #[test]
+    fn plain_and_original() {
+        let mut r = Random::new(8);
+        for _ in 0..3000 {
+            let font = random_font(&mut r);
+            assert_eq!(expected(&font), by_plain(&font));
+        }
+    }
+
+    #[test]
+    fn no_difference() {
+        let counts = compare(&FONT_CASES, 3, 5000).unwrap();
+        assert_eq!(counts.fonts, 5000);
+        assert!((21..=23).all(|number| counts.refused[number] > 0));
+        assert!(counts.read > 1000 && counts.varying > 100);
+    }
+
+    /// A wrong line is told.
+    #[test]
+    fn wrong_lines_are_told() {
+        let wrong = Program {
+            run: |_, list| {
+                let text = (FONT_CASES.run)(&FONT_CASES, list)?;
+                Ok(text.replace("refused 22", "refused 21"))
+            },
+            ..FONT_CASES
+        };
+        let told = compare(&wrong, 3, 5000).err().expect("a difference");
+        // Of a font without a charmap no more than the directory is left.
+        let size = told.split_once("a font of ").unwrap().1;
+        let size: usize = size.split_once(' ').unwrap().0.parse().unwrap();
+        assert!(size < 50, "{told}");
+        assert!(told.contains("01 (plain): refused 22"), "{told}");
+        assert!(told.contains("the proved code: refused 21"), "{told}");
+    }
+}

@@ -1,0 +1,481 @@
+//! Families with a request each, and how each face of them is made: a small
+//! font file, then an override.
+
+use crate::{
+    bytes::{FixedAxis, START, font, fvar, plain_cmap},
+    layout::{Override, Style},
+    numbers::{BANDS, angle, nearby, ratio, some, weight},
+    random::Random,
+};
+
+const NORMAL: Style = Style { kind: 0, angle: 0 };
+const ITALIC: Style = Style { kind: 1, angle: 0 };
+const UNSTATED: Style = Style { kind: 2, angle: 0 };
+
+const fn stated(angle: f32) -> Style {
+    Style {
+        kind: 3,
+        angle: angle.to_bits(),
+    }
+}
+
+/// An axis as `fvar` gives it, and a default that an override sets. An
+/// override reaches only the first axis with a tag.
+#[derive(Copy, Clone, PartialEq, Debug)]
+pub struct AxisPlan {
+    pub fixed: FixedAxis,
+    pub default: Option<f32>,
+}
+
+/// A face before it is made.
+#[derive(Clone, PartialEq, Debug)]
+pub struct FacePlan {
+    pub ratio: f32,
+    pub style: Style,
+    pub weight: f32,
+    pub axes: Vec<AxisPlan>,
+}
+
+impl FacePlan {
+    /// A small font with the axes; its other attributes are the defaults.
+    pub fn file(&self) -> Vec<u8> {
+        let axes: Vec<FixedAxis> = self.axes.iter().map(|axis| axis.fixed).collect();
+        font(START, &[(*b"cmap", plain_cmap()), (*b"fvar", fvar(&axes))])
+    }
+
+    /// What turns the font's attributes into the face's.
+    pub fn given(&self) -> Override {
+        let mut pairs = Vec::new();
+        for (i, axis) in self.axes.iter().enumerate() {
+            let tag = axis.fixed.tag;
+            let first = self.axes[..i].iter().all(|before| before.fixed.tag != tag);
+            if let (true, Some(default)) = (first, axis.default) {
+                pairs.push((tag, default.to_bits()));
+            }
+        }
+        Override {
+            face: 0,
+            ratio: Some(self.ratio.to_bits()),
+            style: Some(self.style),
+            weight: Some(self.weight.to_bits()),
+            pairs,
+        }
+    }
+}
+
+/// What is asked for.
+#[derive(Copy, Clone, PartialEq, Debug)]
+pub struct Asked {
+    pub ratio: f32,
+    pub style: Style,
+    pub weight: f32,
+}
+
+/// A family and a request.
+#[derive(Clone, PartialEq, Debug)]
+pub struct Case {
+    pub synthesis: bool,
+    pub request: Asked,
+    pub faces: Vec<FacePlan>,
+}
+
+/// Random cases without an end.
+pub fn random(seed: u64) -> impl Iterator<Item = Case> {
+    let mut r = Random::new(seed);
+    std::iter::repeat_with(move || random_case(&mut r))
+}
+
+/// The same, and in one of eight both zeros among the weights, the ratios or
+/// both, of the faces as of the request.
+pub fn with_zeros(seed: u64) -> impl Iterator<Item = Case> {
+    let mut r = Random::new(!seed);
+    random(seed).map(move |mut case| {
+        if r.chance(1, 8) {
+            let which = r.pick(&[(true, false), (false, true), (true, true)]);
+            put_zeros(&mut r, &mut case, which);
+        }
+        case
+    })
+}
+
+fn put_zeros(r: &mut Random, case: &mut Case, (weights, ratios): (bool, bool)) {
+    let mut put = |ratio: &mut f32, weight: &mut f32| {
+        if weights && r.chance(2, 3) {
+            *weight = r.pick(&[0.0, -0.0]);
+        }
+        if ratios && r.chance(2, 3) {
+            *ratio = r.pick(&[0.0, -0.0]);
+        }
+    };
+    put(&mut case.request.ratio, &mut case.request.weight);
+    for face in &mut case.faces {
+        put(&mut face.ratio, &mut face.weight);
+    }
+}
+
+fn case(synthesis: bool, ratio: f32, style: Style, weight: f32, faces: &[FacePlan]) -> Case {
+    Case {
+        synthesis,
+        request: Asked {
+            ratio,
+            style,
+            weight,
+        },
+        faces: faces.to_vec(),
+    }
+}
+
+fn plain(ratio: f32, style: Style, weight: f32) -> FacePlan {
+    FacePlan {
+        ratio,
+        style,
+        weight,
+        axes: Vec::new(),
+    }
+}
+
+fn slanted(style: Style) -> FacePlan {
+    let fixed = FixedAxis {
+        tag: *b"slnt",
+        min: 0xfff1_0000,
+        default: 0,
+        max: 0,
+    };
+    FacePlan {
+        axes: vec![AxisPlan {
+            fixed,
+            default: None,
+        }],
+        ..plain(1.0, style, 400.0)
+    }
+}
+
+/// Section 7 of 01, each with synthesis on and off. Its 12 is among the fonts.
+pub fn faces_to_try() -> Vec<Case> {
+    let weights =
+        |list: &[f32]| -> Vec<FacePlan> { list.iter().map(|w| plain(1.0, NORMAL, *w)).collect() };
+    let styles =
+        |list: &[Style]| -> Vec<FacePlan> { list.iter().map(|s| plain(1.0, *s, 400.0)).collect() };
+    let widths = [plain(0.75, NORMAL, 400.0), plain(1.25, NORMAL, 400.0)];
+    let mut out = Vec::new();
+    for synthesis in [true, false] {
+        let mut add = |ratio, style, weight, faces: &[FacePlan]| {
+            out.push(case(synthesis, ratio, style, weight, faces));
+        };
+        add(1.0, NORMAL, 450.0, &weights(&[300.0, 600.0]));
+        add(1.0, NORMAL, 450.0, &weights(&[400.0, 500.0]));
+        add(1.0, NORMAL, 400.0, &weights(&[350.0, 350.0]));
+        add(1.0, NORMAL, 550.0, &weights(&[600.0, 600.0]));
+        add(1.0, NORMAL, 400.0, &widths);
+        add(1.125, NORMAL, 400.0, &widths);
+        let fourteen = styles(&[UNSTATED, stated(14.0)]);
+        add(1.0, ITALIC, 400.0, &fourteen);
+        add(1.0, stated(20.0), 400.0, &fourteen);
+        let left = styles(&[stated(-10.0), stated(-20.0)]);
+        add(1.0, stated(-14.0), 400.0, &left);
+        add(1.0, stated(-13.5), 400.0, &left);
+        let normal = [plain(1.0, NORMAL, 400.0), slanted(NORMAL)];
+        add(1.0, stated(14.0), 400.0, &normal);
+        add(1.0, ITALIC, 400.0, &styles(&[NORMAL, stated(0.0)]));
+        add(1.0, NORMAL, 600.0, &weights(&[400.0]));
+        add(1.0, NORMAL, 601.0, &weights(&[400.0]));
+        for angle in [0.9, -14.9, 200.0, -200.0] {
+            add(1.0, stated(angle), 400.0, &styles(&[NORMAL]));
+        }
+        let upright = [plain(1.0, stated(0.0), 400.0), slanted(stated(0.0))];
+        add(1.0, stated(14.0), 400.0, &upright);
+    }
+    out
+}
+
+fn style(r: &mut Random) -> Style {
+    match r.below(8) {
+        0..=1 => NORMAL,
+        2 => ITALIC,
+        3 => UNSTATED,
+        _ => stated(angle(r)),
+    }
+}
+
+/// Values that the faces of one case share, so that ties are common.
+struct Pools {
+    ratios: Vec<f32>,
+    styles: Vec<Style>,
+    weights: Vec<f32>,
+    /// The request is mostly one for a slope.
+    sloping: bool,
+}
+
+fn pools(r: &mut Random) -> Pools {
+    let (ratios, styles, weights) = match r.below(5) {
+        0 => (1, 1, 6),
+        1 => (1, 6, 2),
+        2 => (5, 2, 2),
+        3 => (2, 4, 4),
+        _ => (3, 3, 3),
+    };
+    let mut pools = Pools {
+        ratios: some(r, 1, ratios, ratio),
+        styles: some(r, 1, styles, style),
+        weights: some(r, 1, weights, weight),
+        sloping: false,
+    };
+    // Ratios of one whole percent, unstated beside 14, both zeros.
+    if r.chance(1, 6) {
+        pools.ratios.extend([0.875, 0.87109375]);
+    }
+    if r.chance(1, 5) {
+        pools.styles.extend([UNSTATED, stated(14.0)]);
+    }
+    if r.chance(1, 8) {
+        let zeros = [stated(0.0), stated(-0.0)];
+        pools.styles.extend(zeros);
+    }
+    // Several angles of one side or two, at one width.
+    if r.chance(1, 3) {
+        pools.styles = slopes(r);
+        pools.ratios.truncate(1);
+        pools.sloping = true;
+    }
+    // Nothing on the side of an oblique request: italic, normal, the rule of
+    // the slant axis.
+    else if r.chance(1, 3) {
+        let side = r.pick(&[20.0, -20.0, 5.0, -5.0]);
+        let others = [
+            NORMAL,
+            NORMAL,
+            ITALIC,
+            stated(0.0),
+            stated(-0.0),
+            stated(side),
+            stated(side + 1.0),
+        ];
+        pools.styles = some(r, 1, 3, |r| r.pick(&others));
+        pools.sloping = true;
+    }
+    pools
+}
+
+fn slopes(r: &mut Random) -> Vec<Style> {
+    let mut styles = Vec::new();
+    for _ in 0..r.pick(&[1, 1, 2]) {
+        let band = r.pick(&BANDS);
+        styles.extend(some(r, 2, 4, |r| stated(r.pick(band))));
+        if band.contains(&14.0) {
+            styles.push(UNSTATED);
+        }
+    }
+    if r.chance(1, 4) {
+        styles.push(r.pick(&[NORMAL, ITALIC]));
+    }
+    styles
+}
+
+/// Requests between the angles of the bands, and at their ends.
+const SLOPES: [Style; 17] = [
+    ITALIC,
+    ITALIC,
+    UNSTATED,
+    stated(0.0),
+    stated(-0.0),
+    stated(4.0),
+    stated(-4.0),
+    stated(11.0),
+    stated(-11.0),
+    stated(13.999),
+    stated(-13.999),
+    stated(14.0),
+    stated(-14.0),
+    stated(16.0),
+    stated(-16.0),
+    stated(100.0),
+    stated(-100.0),
+];
+
+fn request(r: &mut Random, pools: &Pools) -> Asked {
+    let ratio = match r.below(4) {
+        0 => ratio(r),
+        1 => {
+            let near = r.pick(&pools.ratios);
+            nearby(r, near).clamp(-0.0, 16.0)
+        }
+        _ => r.pick(&pools.ratios),
+    };
+    let style = match r.below(4) {
+        _ if pools.sloping && r.chance(2, 3) => r.pick(&SLOPES),
+        0 => r.pick(&pools.styles),
+        1 => match r.pick(&pools.styles) {
+            Style { kind: 3, angle } => stated(nearby(r, f32::from_bits(angle))),
+            UNSTATED => stated(nearby(r, 14.0)),
+            _ => r.pick(&[NORMAL, ITALIC, UNSTATED, stated(14.0)]),
+        },
+        _ => style(r),
+    };
+    let weight = match r.below(6) {
+        0 => r.pick(&pools.weights),
+        1 => {
+            let near = r.pick(&pools.weights);
+            nearby(r, near)
+        }
+        2 => nearby_sum(r, pools),
+        3 => {
+            let edge = r.pick(&[400.0, 450.0, 500.0]);
+            nearby(r, edge)
+        }
+        _ => weight(r),
+    };
+    Asked {
+        ratio,
+        style,
+        weight,
+    }
+}
+
+/// A weight 200 above one of the family, or the single on either side.
+fn nearby_sum(r: &mut Random, pools: &Pools) -> f32 {
+    let sum = r.pick(&pools.weights) + 200.0;
+    let near = match r.below(3) {
+        0 => sum.next_up(),
+        1 => sum.next_down(),
+        _ => sum,
+    };
+    near.clamp(f32::MIN, f32::MAX)
+}
+
+fn fixed(r: &mut Random) -> u32 {
+    match r.below(4) {
+        0 => r.bits(),
+        1 => 0,
+        _ => (r.below(1001) as u32) << 16,
+    }
+}
+
+fn axis(r: &mut Random, tag: [u8; 4], request: &Asked, weight: f32) -> AxisPlan {
+    let fixed = FixedAxis {
+        tag,
+        min: fixed(r),
+        default: fixed(r),
+        max: fixed(r),
+    };
+    let default = match r.below(4) {
+        0 => None,
+        1 => Some(request.weight),
+        2 => Some(nearby(r, request.weight)),
+        _ => Some(nearby(r, weight)),
+    };
+    AxisPlan { fixed, default }
+}
+
+/// How the axes of one case are spread.
+#[derive(Copy, Clone, PartialEq)]
+enum Spread {
+    Bare,
+    SlantHere,
+    SlantElsewhere,
+    Few,
+    Many,
+    Varying,
+}
+
+fn axes(r: &mut Random, spread: Spread, request: &Asked, plan: &FacePlan) -> Vec<AxisPlan> {
+    const TAGS: [[u8; 4]; 6] = [*b"wght", *b"wdth", *b"slnt", *b"ital", *b"opsz", *b"GRAD"];
+    let same = plan.ratio == request.ratio;
+    let tags: Vec<[u8; 4]> = match spread {
+        Spread::Bare => Vec::new(),
+        Spread::SlantHere if r.chance(1, 3) => vec![*b"slnt"],
+        Spread::SlantElsewhere if !same && r.chance(2, 3) => vec![*b"slnt"],
+        Spread::SlantHere | Spread::SlantElsewhere => Vec::new(),
+        Spread::Few => some(r, 0, 3, |r| r.pick(&TAGS)),
+        Spread::Many => some(r, 0, 16, |r| r.pick(&TAGS)),
+        // Each of the four that synthesis sets, in half of the faces, turned about.
+        Spread::Varying => {
+            let mut tags = TAGS[..4].to_vec();
+            tags.retain(|_| r.chance(1, 2));
+            if !tags.is_empty() {
+                let turn = r.below(tags.len());
+                tags.rotate_left(turn);
+            }
+            tags
+        }
+    };
+    tags.into_iter()
+        .map(|tag| axis(r, tag, request, plan.weight))
+        .collect()
+}
+
+fn random_case(r: &mut Random) -> Case {
+    let spread = match r.below(10) {
+        0..=2 => Spread::Bare,
+        3..=4 => Spread::SlantHere,
+        5 => Spread::SlantElsewhere,
+        6 => Spread::Few,
+        7 => Spread::Many,
+        _ => Spread::Varying,
+    };
+    let count = match r.below(40) {
+        0..=1 => 1,
+        _ if spread == Spread::Varying => r.within(1, 4),
+        2..=35 => r.within(2, 8),
+        _ if spread == Spread::Many => r.within(2, 8),
+        36..=37 => r.within(9, 24),
+        38 => r.within(25, 63),
+        _ => 64,
+    };
+    let mut pools = pools(r);
+    if spread == Spread::Varying {
+        pools.styles.extend([NORMAL; 4]);
+    }
+    let request = request(r, &pools);
+    let mut plans: Vec<FacePlan> = Vec::new();
+    for _ in 0..count {
+        // A face may stand twice in a family.
+        if !plans.is_empty() && r.chance(1, 12) {
+            let again = plans[r.below(plans.len())].clone();
+            plans.push(again);
+            continue;
+        }
+        let mut plan = plain(
+            r.pick(&pools.ratios),
+            r.pick(&pools.styles),
+            r.pick(&pools.weights),
+        );
+        plan.axes = axes(r, spread, &request, &plan);
+        plans.push(plan);
+    }
+    Case {
+        synthesis: r.chance(1, 2),
+        request,
+        faces: plans,
+    }
+}
+
+#[cfg(test)]
+mod tests {
+    use super::*;
+
+    /// Every number stays inside section 1 of 01, and the same seed gives the same list.
+    #[test]
+    fn random_cases() {
+        let ok = |ratio: f32, style: Style, weight: f32| {
+            (0.0..=16.0).contains(&ratio)
+                && f32::from_bits(style.angle).is_finite()
+                && weight.is_finite()
+        };
+        for case in random(7).take(400) {
+            let Asked {
+                ratio,
+                style,
+                weight,
+            } = case.request;
+            assert!(ok(ratio, style, weight));
+            assert!((1..=64).contains(&case.faces.len()));
+            for face in &case.faces {
+                assert!(ok(face.ratio, face.style, face.weight));
+                assert!(face.axes.len() <= 16);
+            }
+        }
+        let first = |seed| -> Vec<Case> { random(seed).take(200).collect() };
+        assert_eq!(first(3), first(3));
+        assert_ne!(first(3), first(4));
+    }
+}

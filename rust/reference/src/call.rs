@@ -1,0 +1,452 @@
+//! The check and the offer call of 01, written over the original's font
+//! reading, overrides, matching and synthesis as a Rust program would have
+//! them: one pass over the job, the families of the request in turn up to the
+//! offer that is asked for, and nothing kept from one call to the next.
+
+use std::{path::Path, sync::Arc};
+
+use read_fonts::{FontRef, TableProvider as _, TopLevelTable as _, tables::cmap::Cmap, types::Tag};
+
+use crate::{
+    Attributes, FontInfo, FontInfoOverride, FontStyle, FontWeight, FontWidth, Synthesis,
+    matching::{match_font, match_fonts},
+    source::{SourceId, SourceInfo, SourceKind},
+};
+
+/// Bytes of the output.
+const OUTPUT: usize = 40;
+
+/// Most bytes of a job.
+const BYTES: usize = 16_777_216;
+
+const FACES: u16 = 256;
+const OVERRIDES: u16 = 256;
+const FAMILIES: u16 = 64;
+const PLACES: u16 = 64;
+const REQUESTS: u16 = 256;
+const AXES: usize = 16;
+
+/// The table's number and the field's position.
+#[derive(Copy, Clone, PartialEq, Eq, Debug)]
+pub struct Refusal {
+    pub number: u32,
+    pub position: usize,
+}
+
+/// The check call: none for an accepted job.
+pub fn check(job: &[u8]) -> Result<(), Refusal> {
+    read(job, 0).map(|_| ())
+}
+
+/// The offer call: 0 with the 40 bytes written, or 1 or a refusal's number
+/// with nothing written.
+pub fn offer(job: &[u8], request: u32, number: u32, out: &mut [u8]) -> u32 {
+    let Ok(out) = <&mut [u8; OUTPUT]>::try_from(out) else {
+        return 16;
+    };
+    let job = match read(job, request as usize) {
+        Ok(job) => job,
+        Err(refusal) => return refusal.number,
+    };
+    let Some(request) = &job.request else {
+        return 28;
+    };
+    match find(&job, request, number as usize) {
+        Some(record) => {
+            *out = record;
+            0
+        }
+        None => 1,
+    }
+}
+
+struct Face<'a> {
+    held: bool,
+    file: &'a [u8],
+    info: FontInfo,
+}
+
+/// 16-bit numbers as they stand in the job.
+type Numbers<'a> = &'a [[u8; 2]];
+
+struct Request<'a> {
+    most: usize,
+    attributes: Attributes,
+    families: Numbers<'a>,
+    fallbacks: Numbers<'a>,
+}
+
+/// An accepted job, its overrides applied, and the request that is asked for.
+struct Job<'a> {
+    faces: Vec<Face<'a>>,
+    families: Vec<Numbers<'a>>,
+    request: Option<Request<'a>>,
+}
+
+/// Reads the whole job; of its requests only the asked one is kept.
+fn read(job: &[u8], asked: usize) -> Result<Job<'_>, Refusal> {
+    if job.len() > BYTES {
+        return Err(Refusal {
+            number: 17,
+            position: 0,
+        });
+    }
+    let mut reader = Reader { job, at: 0 };
+    // The original wants a source for each font; this one is never loaded.
+    let nowhere: Arc<Path> = Arc::from(Path::new(""));
+    let source = SourceInfo::new(SourceId::new(), SourceKind::Path(nowhere));
+    let count = reader.count(FACES)?;
+    let mut faces = Vec::with_capacity(usize::from(count));
+    for _ in 0..count {
+        faces.push(reader.face(&source)?);
+    }
+    let mut pairs = Vec::new();
+    for _ in 0..reader.count(OVERRIDES)? {
+        reader.apply_override(&mut faces, &mut pairs)?;
+    }
+    let count = reader.count(FAMILIES)?;
+    let mut families = Vec::with_capacity(usize::from(count));
+    for _ in 0..count {
+        families.push(reader.family(faces.len())?);
+    }
+    let mut request = None;
+    for number in 0..usize::from(reader.count(REQUESTS)?) {
+        let read = reader.request()?;
+        if number == asked {
+            request = Some(read);
+        }
+    }
+    if reader.at < job.len() {
+        return refuse(27, reader.at);
+    }
+    Ok(Job {
+        faces,
+        families,
+        request,
+    })
+}
+
+fn refuse<T>(number: u32, position: usize) -> Result<T, Refusal> {
+    Err(Refusal { number, position })
+}
+
+struct Reader<'a> {
+    job: &'a [u8],
+    /// Position of the next field.
+    at: usize,
+}
+
+impl<'a> Reader<'a> {
+    /// The next field and its position.
+    fn field<const N: usize>(&mut self) -> Result<([u8; N], usize), Refusal> {
+        let at = self.at;
+        match self.job[at..].first_chunk() {
+            Some(bytes) => {
+                self.at = at + N;
+                Ok((*bytes, at))
+            }
+            None => refuse(18, at),
+        }
+    }
+
+    fn byte(&mut self) -> Result<(u8, usize), Refusal> {
+        self.field::<1>().map(|([byte], at)| (byte, at))
+    }
+
+    fn number(&mut self) -> Result<(u16, usize), Refusal> {
+        self.field()
+            .map(|(bytes, at)| (u16::from_be_bytes(bytes), at))
+    }
+
+    fn single(&mut self) -> Result<(f32, usize), Refusal> {
+        self.field()
+            .map(|(bytes, at)| (f32::from_be_bytes(bytes), at))
+    }
+
+    fn count(&mut self, limit: u16) -> Result<u16, Refusal> {
+        match self.number()? {
+            (count, at) if count > limit => refuse(19, at),
+            (count, _) => Ok(count),
+        }
+    }
+
+    fn face_number(&mut self, faces: usize) -> Result<usize, Refusal> {
+        match self.number()? {
+            (face, at) if usize::from(face) >= faces => refuse(24, at),
+            (face, _) => Ok(usize::from(face)),
+        }
+    }
+
+    fn finite(&mut self) -> Result<f32, Refusal> {
+        match self.single()? {
+            (value, _) if value.is_finite() => Ok(value),
+            (_, at) => refuse(26, at),
+        }
+    }
+
+    fn width(&mut self) -> Result<FontWidth, Refusal> {
+        match self.single()? {
+            (ratio, _) if (0.0..=16.0).contains(&ratio) => Ok(FontWidth::from_ratio(ratio)),
+            (_, at) => refuse(26, at),
+        }
+    }
+
+    fn weight(&mut self) -> Result<FontWeight, Refusal> {
+        self.finite().map(FontWeight::new)
+    }
+
+    fn style(&mut self) -> Result<FontStyle, Refusal> {
+        let style = match self.byte()? {
+            (0, _) => FontStyle::Normal,
+            (1, _) => FontStyle::Italic,
+            (2, _) => FontStyle::Oblique(None),
+            (3, _) => return Ok(FontStyle::Oblique(Some(self.finite()?))),
+            (_, at) => return refuse(25, at),
+        };
+        self.spare::<4>()?;
+        Ok(style)
+    }
+
+    /// A field that has to be zero.
+    fn spare<const N: usize>(&mut self) -> Result<(), Refusal> {
+        match self.field::<N>()? {
+            (bytes, _) if bytes == [0; N] => Ok(()),
+            (_, at) => refuse(25, at),
+        }
+    }
+
+    fn face(&mut self, source: &SourceInfo) -> Result<Face<'a>, Refusal> {
+        let held = match self.byte()? {
+            (held, _) if held <= 1 => held == 1,
+            (_, at) => return refuse(20, at),
+        };
+        // The font is one field, from its length on.
+        let (length, at) = self.field()?;
+        let length = u32::from_be_bytes(length) as usize;
+        let Some(file) = self.job[self.at..].get(..length) else {
+            return refuse(18, at);
+        };
+        self.at += length;
+        match font_info(file, source) {
+            Ok(info) => Ok(Face { held, file, info }),
+            Err(number) => refuse(number, at),
+        }
+    }
+
+    /// Reads an override and applies it; the pairs are room to be used again.
+    fn apply_override(
+        &mut self,
+        faces: &mut [Face<'_>],
+        pairs: &mut Vec<(Tag, f32)>,
+    ) -> Result<(), Refusal> {
+        let face = self.face_number(faces.len())?;
+        let mask = match self.byte()? {
+            (mask, _) if mask <= 7 => mask,
+            (_, at) => return refuse(25, at),
+        };
+        let width = if mask & 1 != 0 {
+            Some(self.width()?)
+        } else {
+            self.spare::<4>()?;
+            None
+        };
+        let style = if mask & 2 != 0 {
+            Some(self.style()?)
+        } else {
+            self.spare::<1>()?;
+            self.spare::<4>()?;
+            None
+        };
+        let weight = if mask & 4 != 0 {
+            Some(self.weight()?)
+        } else {
+            self.spare::<4>()?;
+            None
+        };
+        pairs.clear();
+        for _ in 0..self.byte()?.0 {
+            let (tag, _) = self.field()?;
+            pairs.push((Tag::new(&tag), self.finite()?));
+        }
+        faces[face].info.apply_override(&FontInfoOverride {
+            family_name: None,
+            width,
+            style,
+            weight,
+            axes: Some(pairs),
+        });
+        Ok(())
+    }
+
+    fn family(&mut self, faces: usize) -> Result<Numbers<'a>, Refusal> {
+        let count = self.count(PLACES)?;
+        let start = self.at;
+        for _ in 0..count {
+            self.face_number(faces)?;
+        }
+        Ok(self.job[start..self.at].as_chunks().0)
+    }
+
+    fn request(&mut self) -> Result<Request<'a>, Refusal> {
+        Ok(Request {
+            most: usize::from(self.number()?.0),
+            attributes: Attributes {
+                width: self.width()?,
+                style: self.style()?,
+                weight: self.weight()?,
+            },
+            families: self.list()?,
+            fallbacks: self.list()?,
+        })
+    }
+
+    /// A byte count and that many family numbers; any number is accepted.
+    fn list(&mut self) -> Result<Numbers<'a>, Refusal> {
+        let count = usize::from(self.byte()?.0);
+        let (numbers, _) = self.job[self.at..].as_chunks();
+        match numbers.get(..count) {
+            Some(list) => {
+                self.at += 2 * count;
+                Ok(list)
+            }
+            // The first number that does not fit.
+            None => refuse(18, self.at + 2 * numbers.len()),
+        }
+    }
+}
+
+/// A font as the original reads it, or why it is refused.
+fn font_info(file: &[u8], source: &SourceInfo) -> Result<FontInfo, u32> {
+    let font = FontRef::from_index(file, 0).map_err(|_| 21u32)?;
+    let info = FontInfo::from_font_ref(&font, source.clone(), 0).ok_or(22u32)?;
+    if info.axes().len() > AXES {
+        return Err(23);
+    }
+    Ok(info)
+}
+
+/// The record of the offer with the number, none past the list.
+fn find(job: &Job<'_>, request: &Request<'_>, number: usize) -> Option<[u8; OUTPUT]> {
+    if number >= request.most {
+        return None;
+    }
+    let Attributes {
+        width,
+        style,
+        weight,
+    } = request.attributes;
+    let mut left = number;
+    let mut fonts: Vec<FontInfo> = Vec::new();
+    let mut equal: Vec<usize> = Vec::new();
+    for family in request.families.iter().chain(request.fallbacks) {
+        let family = u16::from_be_bytes(*family);
+        let Some(places) = job.families.get(usize::from(family)) else {
+            continue;
+        };
+        if places.is_empty() {
+            continue;
+        }
+        let face = |place: usize| &job.faces[usize::from(u16::from_be_bytes(places[place]))];
+        fonts.clear();
+        fonts.extend((0..places.len()).map(|place| face(place).info.clone()));
+        equal.clear();
+        equal.extend(match_fonts(&fonts, width, style, weight, true));
+        let offered = |place: usize| {
+            let synthesis = fonts[place].synthesis(width, style, weight);
+            Some(record(family, place, &synthesis, face(place).file))
+        };
+        for place in equal.iter().copied().filter(|place| face(*place).held) {
+            if left == 0 {
+                return offered(place);
+            }
+            left -= 1;
+        }
+        let default = default_place(&fonts);
+        if face(default).held && !equal.contains(&default) {
+            if left == 0 {
+                return offered(default);
+            }
+            left -= 1;
+        }
+    }
+    None
+}
+
+/// As in `FamilyInfo::new`.
+fn default_place(fonts: &[FontInfo]) -> usize {
+    let Attributes {
+        width,
+        style,
+        weight,
+    } = Attributes::default();
+    match_font(fonts, width, style, weight, false).unwrap_or(0)
+}
+
+fn record(family: u16, place: usize, synthesis: &Synthesis, file: &[u8]) -> [u8; OUTPUT] {
+    let mut out = [0; OUTPUT];
+    out[0..2].copy_from_slice(&family.to_be_bytes());
+    out[2..4].copy_from_slice(&(place as u16).to_be_bytes());
+    out[4] = u8::from(synthesis.embolden());
+    out[5] = synthesis.skew().unwrap_or(0.0) as i8 as u8;
+    let settings = synthesis.variation_settings();
+    out[6] = settings.len() as u8;
+    for (slot, (tag, value)) in out[8..32].as_chunks_mut::<8>().0.iter_mut().zip(settings) {
+        slot[..4].copy_from_slice(&tag.to_be_bytes());
+        slot[4..].copy_from_slice(&value.to_be_bytes());
+    }
+    let (offset, symbol, mac_roman) = charmap(file).expect("the font has been read");
+    out[32..36].copy_from_slice(&offset.to_be_bytes());
+    out[36] = u8::from(symbol);
+    out[37] = u8::from(mac_roman);
+    out
+}
+
+/// Offset and flags of the best subtable. The original's index keeps them to
+/// itself, so they are read as it read them.
+fn charmap(file: &[u8]) -> Option<(u32, bool, bool)> {
+    let font = FontRef::from_index(file, 0).ok()?;
+    let records = font.table_directory().table_records();
+    let table = records.iter().find(|record| record.tag() == Cmap::TAG)?;
+    let (_, best, _) = font.cmap().ok()?.best_subtable()?;
+    let offset = table.offset() + best.subtable_offset().to_u32();
+    Some((offset, best.is_symbol(), best.is_mac_roman()))
+}
+
+#[cfg(test)]
+mod tests {
+    use super::*;
+    use jobs::list;
+
+    /// Both calls beside those of the plain reading, every request, up to one
+    /// past its list.
+    #[test]
+    fn as_the_plain_reading() {
+        let cases = list::made().into_iter().chain(list::random(21).take(3000));
+        for case in cases {
+            let bytes = &case.bytes[..];
+            let checked = check(bytes)
+                .err()
+                .map_or((0, 0), |refusal| (refusal.number, refusal.position as u32));
+            assert_eq!(checked, plain::check(bytes), "{}", case.label);
+            let Ok(job) = plain::job::read(bytes) else {
+                assert_eq!(offer(bytes, 0, 0, &mut [0; OUTPUT]), checked.0);
+                continue;
+            };
+            for (request, asked) in job.requests.iter().enumerate() {
+                let list = plain::offers(&job, asked);
+                for number in 0..=list.len() {
+                    let mut out = [0x5a; OUTPUT];
+                    let answer = offer(bytes, request as u32, number as u32, &mut out);
+                    let expected = match list.get(number) {
+                        Some(offer) => (0, offer.record()),
+                        None => (1, [0x5a; OUTPUT]),
+                    };
+                    assert_eq!((answer, out), expected, "{}", case.label);
+                }
+            }
+            let past = job.requests.len() as u32;
+            assert_eq!(offer(bytes, past, 0, &mut [0; OUTPUT]), 28);
+            assert_eq!(offer(bytes, past, 0, &mut [0; OUTPUT - 1]), 16);
+        }
+    }
+}
