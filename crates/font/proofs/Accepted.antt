@@ -6,8 +6,8 @@ use mathlib.Core.Bool.{Bool, true, false, cond}
 use mathlib.Core.List.{List, [], _∷_}
 use native.Mathlib.Omega.{arith}
 use native.Mathlib.Nat.{lt-of-le-of-lt}
-use borrow.Author.Tests.{lt-ltb, leb-true, le-leb}
-use lib.Dec.{T, leb, ltb, lit<}
+use borrow.Author.Tests.{le-leb}
+use lib.Dec.{T, leb, lit<}
 use lib.Pow.{shl-lt}
 use lib.ListN.{length, getD, take, drop}
 use lib.Seq.{getD-drop}
@@ -16,23 +16,19 @@ use lib.Ieee.Scale.{grid, overflow, finite}
 use Rattle.font.specs.declared.attributes.FontStyle.{FontStyle}
 use Rattle.font.specs.declared.attributes.Angle.the-variants.{Unstated, Degrees}
 use Rattle.font.specs.declared.attributes.FontStyle.the-variants.{Normal, Italic, Oblique}
-use Rattle.font.specs.declared.charmap.CharmapIndex.{CharmapIndex}
-use Rattle.font.specs.declared.charmap.Charmap.{Charmap}
-use Rattle.font.specs.declared.charmap.Charmap.the-variants.{Missing, Index}
 use Rattle.font.specs.declared.font.FontInfo.{FontInfo}
 use Rattle.font.specs.declared.tables.Table.{Table}
 use Rattle.font.specs.declared.tables.Table.the-variants.{Absent, Found}
 use Rattle.font.specs.First.{every}
 use Rattle.font.specs.Single.{single, fixedToSingle, acceptedRatio}
 use Rattle.font.specs.Attributes.{attributesOf, defaultAttributes, acceptedAngle, acceptedStyle, acceptedAttributes}
-use Rattle.font.specs.Tables.{u16At, u32At, findTable, partOf, tableData, directoryFits}
-use Rattle.font.specs.Charmap.{charmapIndex}
+use Rattle.font.specs.Tables.{u16At, u32At, findTable, partOf, tableData}
 use Rattle.font.specs.Reading.{present, bit, thousandths, classWidths, widthOfClass, postAngle, os2Style, fromOs2Post, headStyle, headWeight, fromHead, readAttributes}
-use Rattle.font.specs.Font.{fvarOf, axisCount, axisAt, noAxis, axesOf, emptyFont, refusedFont, withIndex, withCharmap, fromFontRef}
+use Rattle.font.specs.Font.{fvarOf, axisCount, axisAt, axesOf, emptyFont, faceOf, fromFontRef}
 use Rattle.font.specs.Overrides.{axisOf, acceptedAxis, acceptedFace, refusalOf}
 use Rattle.font.proofs.Units.{value-finite, grid-le, round-value}
 use Rattle.font.proofs.Nearest.{fixed-nearest}
-use Rattle.font.proofs.Tabulated.{element}
+use Rattle.font.proofs.FaceOf.{few-stated, each-face, axis-there}
 
 known : (b : Bool) → T b → b ≡ true
 known true t = refl
@@ -178,10 +174,6 @@ axis-accepted fvar h i =
     let at = u16At fvar 4 + 20 * i in
     rw (fixed-finite (u32At fvar (at + 4)) (below32 fvar h (at + 4)), fixed-finite (u32At fvar (at + 8)) (below32 fvar h (at + 8)), fixed-finite (u32At fvar (at + 12)) (below32 fvar h (at + 12)))
 
-axis-there : (fvar : List ℕ) (n i : ℕ) → i < n → n ≤ 16 → axisOf (axesOf fvar n) i ≡ axisAt fvar i
-unfolding axisOf axesOf
-axis-there fvar n i h k = element (λ j. cond (ltb j n) (axisAt fvar j) noAxis) 16 i _ (omega arith) ∙ rw (lt-ltb i n h)
-
 axes-accepted : (fvar : List ℕ) (n : ℕ) → Bytes fvar → n ≤ 16 → every (λ i. acceptedAxis (axisOf (axesOf fvar n) i)) n ≡ true
 axes-accepted fvar n h k = every-all (λ i. acceptedAxis (axisOf (axesOf fvar n) i)) n (λ i l. ap acceptedAxis (axis-there fvar n i l k) ∙ axis-accepted fvar h i)
 
@@ -189,16 +181,6 @@ axes-accepted fvar n h k = every-all (λ i. acceptedAxis (axisOf (axesOf fvar n)
 empty-accepted : acceptedFace emptyFont ≡ true
 unfolding acceptedFace emptyFont every
 empty-accepted = rw default-accepted
-
--- the face that a font gives with an index, where it has at most 16 axes
-abbrev faceWith : List ℕ → CharmapIndex → FontInfo
-faceWith font index =
-    record {
-      attributes = readAttributes font;
-      axes = axesOf (fvarOf font) (axisCount (fvarOf font));
-      «axis_count» = axisCount (fvarOf font);
-      «charmap_index» = index;
-    }
 
 -- at most 16 axes, and every number accepted
 abbrev Fine : FontInfo → Type 0
@@ -208,28 +190,14 @@ empty-fine : Fine emptyFont
 unfolding emptyFont
 empty-fine = (omega arith, empty-accepted)
 
-with-fine : (font : List ℕ) → Bytes font → (index : CharmapIndex) → axisCount (fvarOf font) ≤ 16 → Fine (faceWith font index)
-unfolding acceptedFace fvarOf
-with-fine font h index l =
+face-fine : (font : List ℕ) → Bytes font → axisCount (fvarOf font) ≤ 16 → Fine (faceOf font)
+unfolding acceptedFace fvarOf faceOf
+face-fine font h l =
     let fvar = tableData font 0x66766172 16 in
     (l, rw (attributes-accepted font h, axes-accepted fvar (axisCount fvar) (table-bytes font 0x66766172 16 h) l))
 
-index-fine : (font : List ℕ) → Bytes font → (index : CharmapIndex) → Fine (withIndex font index .font)
-unfolding withIndex refusedFont
-index-fine font h index = go (leb (axisCount (fvarOf font)) 16) refl
-  where
-    go : (b : Bool) → leb (axisCount (fvarOf font)) 16 ≡ b → Fine (cond b (record { refusal = 0; font = faceWith font index }) (refusedFont 23) .font)
-    go true e = with-fine font h index (leb-true (axisCount (fvarOf font)) 16 e)
-    go false e = empty-fine
-
 read-fine : (font : List ℕ) → Bytes font → Fine (fromFontRef font .font)
-unfolding fromFontRef withCharmap refusedFont
-read-fine font h = go (directoryFits font) (charmapIndex font)
-  where
-    go : (b : Bool) (m : Charmap) → Fine (cond b (withCharmap font m) (refusedFont 21) .font)
-    go true Missing = empty-fine
-    go true (Index index) = index-fine font h index
-    go false m = empty-fine
+read-fine font h = each-face Fine font empty-fine (λ z. face-fine font h (few-stated font z))
 
 -- the face that a font gives has only accepted numbers
 pub read-accepted : (font : List ℕ) → Bytes font → acceptedFace (fromFontRef font .font) ≡ true

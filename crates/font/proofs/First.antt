@@ -83,6 +83,14 @@ before p (suc n) k l = go (ltb (first p n) n) (p n) refl refl (before p n k) l
     go false false t e back l =
         ⊎-elim (λ h. back (omega (arith, ltb-false (first p n) n t))) (λ h. ap p h ∙ e) (below-or-last k n l)
 
+-- a search that meets the same answers ends at the same place
+pub first-same : (p q : ℕ → Bool) (n : ℕ) → ((i : ℕ) → i < n → p i ≡ q i) → first p n ≡ first q n
+unfolding first
+first-same p q zero h = refl
+first-same p q (suc n) h =
+    λ k.
+    cond (ltb (first-same p q n (λ i l. h i (omega arith)) k) n) (first-same p q n (λ i l. h i (omega arith)) k) (cond (h n (omega arith) k) n (suc n))
+
 -- ---- for a loop that goes on after it has found one
 
 -- none has the property

@@ -1,6 +1,6 @@
 -- The charmap index of a font lies in the file: the subtable of the best record has two bytes there.
-use Prim.Native.Nat.{ℕ, zero, suc, _+_, _*_, _≤_, _<_, min}
-use mathlib.Core.Path.{_≡_, refl, sym, _∙_, ap}
+use Prim.Native.Nat.{ℕ, zero, suc, _+_, _*_, _≤_, _<_}
+use mathlib.Core.Path.{_≡_, refl, _∙_, ap}
 use mathlib.Core.Bool.{Bool, true, false, cond, _&&_}
 use mathlib.Core.List.{List}
 use native.Mathlib.Omega.{arith}
@@ -16,13 +16,11 @@ use Rattle.font.specs.First.{first, leastBelow, firstLeast}
 use Rattle.font.specs.Tables.{u16At, findTable, partOf}
 use Rattle.font.specs.Charmap.{classOf, subtableOffset, qualifies, recordClass, bestClass, bestRecord, indexOf, indexIn, charmapIndex}
 use Rattle.font.specs.declared.charmap.Charmap.{Charmap}
-use Rattle.font.specs.declared.font.Checked.{Checked}
-use Rattle.font.specs.Tables.{directoryFits}
-use Rattle.font.specs.Reading.{readAttributes}
-use Rattle.font.specs.Font.{fvarOf, axisCount, axesOf, refusedFont, emptyFont, noIndex, withIndex, withCharmap, fromFontRef}
+use Rattle.font.specs.Font.{emptyFont, faceOf, indexOr, noIndex, fromFontRef}
 use Rattle.font.proofs.First.{holds}
 use Rattle.font.proofs.Least.{Best, best-start, best-new, best-kept}
 use Rattle.font.proofs.Lookup.{within}
+use Rattle.font.proofs.FaceOf.{each-face}
 
 -- some thing is the first of the least value
 some-best : (top : ℕ) (f : ℕ → ℕ) (n : ℕ) → (c : ℕ) × (b : ℕ) × Best top f n c b
@@ -90,32 +88,12 @@ index-inside font i = go (findTable font 0x636D6170 4) refl
         let long : length (take n (drop o font)) ≡ n = simp (length-take, length-drop) (omega (arith, w .inside)) in
         omega (arith, in-table o (take n (drop o font)) i h, long, w .inside)
 
--- the face that `withIndex` gives
-abbrev faceWith : List ℕ → CharmapIndex → Checked
-faceWith font i =
-    record {
-      refusal = 0;
-      font =
-          record {
-            attributes = readAttributes font;
-            axes = axesOf (fvarOf font) (axisCount (fvarOf font));
-            «axis_count» = axisCount (fvarOf font);
-            «charmap_index» = i;
-          };
-    }
-
 -- whether a font is refused or not, the offset of its charmap index is at most the file's length
 pub offset-inside : (font : List ℕ) → fromFontRef font .font .«charmap_index» .«subtable_offset» ≤ length font
-unfolding fromFontRef withCharmap withIndex refusedFont emptyFont noIndex
-offset-inside font = go (directoryFits font) (charmapIndex font) refl
+unfolding emptyFont faceOf indexOr noIndex
+offset-inside font =
+    each-face (λ f. f .«charmap_index» .«subtable_offset» ≤ length font) font (omega arith) (λ z. go (charmapIndex font) refl)
   where
-    last : (b : Bool) (i : CharmapIndex) → i .«subtable_offset» + 2 ≤ length font
-        → cond b (faceWith font i) (refusedFont 23) .font .«charmap_index» .«subtable_offset» ≤ length font
-    last true i l = omega arith
-    last false i l = omega arith
-
-    go : (b : Bool) (m : Charmap) → charmapIndex font ≡ m
-        → cond b (withCharmap font m) (refusedFont 21) .font .«charmap_index» .«subtable_offset» ≤ length font
-    go true Missing c = omega arith
-    go true (Index i) c = last (leb (axisCount (fvarOf font)) 16) i (index-inside font i c)
-    go false m c = omega arith
+    go : (m : Charmap) → charmapIndex font ≡ m → indexOr noIndex m .«subtable_offset» ≤ length font
+    go Missing e = omega arith
+    go (Index i) e = omega (arith, index-inside font i e)

@@ -6,6 +6,7 @@ pub mod Units
 pub mod Fixed
 pub mod Nearest
 pub mod Nan
+pub mod FiniteBits
 pub mod Pattern
 pub mod Steps
 pub mod Whole
@@ -26,5 +27,6 @@ pub mod Inside
 pub mod Classes
 pub mod FaceOf
 -- Section 3: overrides.
+pub mod Defaults
 pub mod Refusals
 pub mod Accepted

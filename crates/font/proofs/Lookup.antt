@@ -1,5 +1,5 @@
 -- Laws of table lookup: a found table lies in the file and has the bytes that were asked for, and its part of the file is handed out.
-use Prim.Native.Nat.{ℕ, _+_, _-_, _≤_, _<_}
+use Prim.Native.Nat.{ℕ, _+_, _*_, _-_, _≤_, _<_}
 use mathlib.Core.Path.{_≡_, refl, sym, ap, _∙_}
 use mathlib.Core.Bool.{Bool, true, false, _&&_, cond}
 use mathlib.Core.List.{List, []}
@@ -10,7 +10,18 @@ use lib.Dec.{leb, ltb}
 use borrow.Author.Tests.{leb-true}
 use Rattle.font.specs.declared.tables.Table.{Table}
 use Rattle.font.specs.declared.tables.Table.the-variants.{Absent, Found}
-use Rattle.font.specs.Tables.{tableOfRecord, findTable, partOf, tableData, recordLength, recordOffset, firstRecord, directoryFits, recordCount}
+use Rattle.font.specs.Tables.{tableOfRecord, findTable, partOf, tableData, recordLength, recordOffset, firstRecord, directoryFits, startsAsFont, u32At, recordCount}
+
+-- the records of a directory that fits lie in the file
+pub records-inside : (font : List ℕ) → directoryFits font ≡ true → 12 + 16 * recordCount font ≤ length font
+unfolding directoryFits
+records-inside font =
+    go (leb 12 (length font)) (startsAsFont (u32At font 0)) (leb (12 + 16 * recordCount font) (length font)) refl
+  where
+    go : (a b c : Bool) → leb (12 + 16 * recordCount font) (length font) ≡ c → a && (b && c) ≡ true → 12 + 16 * recordCount font ≤ length font
+    go true true c e h = leb-true (12 + 16 * recordCount font) (length font) (e ∙ h)
+    go true false c e h = absurd (let z : _≡_ {A = ℕ} 0 1 = cc in omega arith)
+    go false b c e h = absurd (let z : _≡_ {A = ℕ} 0 1 = cc in omega arith)
 
 -- what a found table's offset and length are known to be
 pub record Within (font : List ℕ) (least offset len : ℕ) : Type 0 where

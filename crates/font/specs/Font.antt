@@ -1,6 +1,6 @@
 -- Section 2: axes, and the face that a font file gives.
 use Prim.Native.Nat.{ℕ, _+_, _*_}
-use mathlib.Core.Bool.{Bool, false, _&&_, cond}
+use mathlib.Core.Bool.{Bool, true, false, _&&_, cond}
 use mathlib.Core.List.{List}
 use lib.ListN.{length}
 use lib.Dec.{leb, ltb, eqb}
@@ -49,38 +49,44 @@ axesOf fvar n = tabulate (λ i. cond (ltb i n) (axisAt fvar i) noAxis) 16
 unfoldable pub noIndex : CharmapIndex
 noIndex = record { «subtable_offset» = 0; «is_symbol» = false; «is_mac_roman» = false }
 
+-- "no qualifying `cmap` record" is no index
+unfoldable pub hasIndex : Charmap → Bool
+hasIndex Missing = false
+hasIndex (Index index) = true
+
+unfoldable pub indexOr : CharmapIndex → Charmap → CharmapIndex
+indexOr other Missing = other
+indexOr other (Index index) = index
+
+-- ---- section 6, the rows of a font: 21 "bad start or directory past file", 22 "no qualifying `cmap` record",
+-- 23 "over 16 axes given by section 2"; 0 is no refusal
+unfoldable pub fontRefusal : List ℕ → ℕ
+fontRefusal font =
+    cond (directoryFits font)
+    (cond (hasIndex (charmapIndex font))
+    (cond (leb (axisCount (fvarOf font)) 16) 0 23)
+    22)
+    21
+
+-- ---- the face that a font file gives
+
+unfoldable pub faceOf : List ℕ → FontInfo
+faceOf font =
+    record {
+      attributes = readAttributes font;
+      axes = axesOf (fvarOf font) (axisCount (fvarOf font));
+      «axis_count» = axisCount (fvarOf font);
+      «charmap_index» = indexOr noIndex (charmapIndex font);
+    }
+
 -- the face that stands beside a refusal
 unfoldable pub emptyFont : FontInfo
 emptyFont =
     record { attributes = defaultAttributes; axes = tabulate (λ i. noAxis) 16; «axis_count» = 0; «charmap_index» = noIndex }
 
-unfoldable pub refusedFont : ℕ → Checked
-refusedFont n = record { refusal = n; font = emptyFont }
-
--- with the charmap index: "over 16 axes given by section 2" is refusal 23
-unfoldable pub withIndex : List ℕ → CharmapIndex → Checked
-withIndex font index =
-    cond (leb (axisCount (fvarOf font)) 16)
-    (record {
-      refusal = 0;
-      font =
-          record {
-            attributes = readAttributes font;
-            axes = axesOf (fvarOf font) (axisCount (fvarOf font));
-            «axis_count» = axisCount (fvarOf font);
-            «charmap_index» = index;
-          };
-    })
-    (refusedFont 23)
-
--- "no qualifying `cmap` record" is refusal 22
-unfoldable pub withCharmap : List ℕ → Charmap → Checked
-withCharmap font Missing = refusedFont 22
-withCharmap font (Index index) = withIndex font index
-
--- "bad start or directory past file" is refusal 21
 unfoldable pub fromFontRef : List ℕ → Checked
-fromFontRef font = cond (directoryFits font) (withCharmap font (charmapIndex font)) (refusedFont 21)
+fromFontRef font =
+    record { refusal = fontRefusal font; font = cond (eqb (fontRefusal font) 0) (faceOf font) emptyFont }
 
 -- whether an axis with the tag is among those that a font file gives
 unfoldable pub statesAxis : List ℕ → ℕ → Bool

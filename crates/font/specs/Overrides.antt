@@ -69,6 +69,15 @@ unfoldable pub setDefaults : List AxisInfo → ℕ → List ℕ → List Float �
 setDefaults axes n tags values zero = axes
 setDefaults axes n tags values (suc k) = setDefault (setDefaults axes n tags values k) n (getD tags k 0) (getD values k nan)
 
+-- a face with other axes
+unfoldable pub withAxes : FontInfo → List AxisInfo → FontInfo
+withAxes f axes =
+    record { attributes = f .attributes; axes = axes; «axis_count» = f .«axis_count»; «charmap_index» = f .«charmap_index» }
+
+-- a face after the first k pairs, in order
+unfoldable pub withDefaults : FontInfo → List ℕ → List Float → ℕ → FontInfo
+withDefaults f tags values k = withAxes f (setDefaults (f .axes) (f .«axis_count») tags values k)
+
 unfoldable pub withOverride : FontInfo → FontInfoOverride → List ℕ → List Float → FontInfo
 withOverride f o tags values =
     record {

@@ -3,8 +3,10 @@ ghost use mathlib.Core.Path.{_≡_};
 ghost use mathlib.Core.Bool.{true};
 ghost use Prim.Native.Nat.{_+_, _*_, _^_, _≤_, _<_};
 ghost use lib.ListN.{length};
+ghost use lib.Dec.{ltb};
 ghost use Rattle.font.specs.Tables.{directoryFits};
 ghost use Rattle.font.specs.Charmap.{classOf, recordClass, bestClass, bestRecord, indexOf, charmapIndex};
+ghost use Rattle.font.specs.Font.{hasIndex};
 use crate::tables;
 use crate::tables::Table;
 
@@ -74,13 +76,13 @@ fn record_class(cmap: &[u8], i: usize) -> u8
     requires { ⌜ 12 + 8 * i ≤ length (now cmap) ⌝ }
     ensures { λ r. ⌜ r ≡ recordClass (now (cmap .entry)) i ⌝ }
 {
-    let offset = tables::u32_at(cmap, 8 + 8 * i) as usize;
+    let offset = tables::u32_in(cmap, 8 + 8 * i) as usize;
     if cmap.len() < offset + 2 {
         return 4;
     }
     class_of(
-        tables::u16_at(cmap, 4 + 8 * i),
-        tables::u16_at(cmap, 6 + 8 * i),
+        tables::u16_in(cmap, 4 + 8 * i),
+        tables::u16_in(cmap, 6 + 8 * i),
     )
 }
 
@@ -132,6 +134,32 @@ pub(crate) fn index_in(font: &[u8]) -> Charmap
         Table::Found { offset, length } => index_of(offset, &font[offset..offset + length]),
         Table::Absent => Charmap::Missing,
     }
+}
+
+// Whether a record has a class. The first that has one ends the search.
+fn has_class(cmap: &[u8]) -> bool
+    ensures { λ r. ⌜ r ≡ ltb (bestClass (now (cmap .entry))) 4 ⌝ }
+{
+    let records = tables::u16_at(cmap, 2) as usize;
+    let mut i: usize = 0;
+    while i < records {
+        if cmap.len() < 12 + 8 * i {
+            return false;
+        }
+        if record_class(cmap, i) < 4 {
+            return true;
+        }
+        i += 1;
+    }
+    false
+}
+
+// Whether a font whose directory fits has a charmap index.
+pub(crate) fn has_index_in(font: &[u8]) -> bool
+    requires { ⌜ directoryFits (now font) ≡ true ⌝ }
+    ensures { λ r. ⌜ r ≡ hasIndex (charmapIndex (now (font .entry))) ⌝ }
+{
+    has_class(tables::data_in(font, 0x636D_6170, 4))
 }
 
 impl CharmapIndex {

@@ -6,7 +6,8 @@ ghost use lib.Dec.{leb, eqb};
 ghost use Rattle.font.specs.First.{first};
 ghost use Rattle.font.specs.Reading.{widthOfClass, postAngle, os2Style, fromOs2Post, headStyle, headWeight, fromHead, readAttributes};
 ghost use Rattle.font.specs.Tables.{directoryFits, tableData};
-ghost use Rattle.font.specs.Font.{fvarOf, axisCount, axisAt, axesOf, refusedFont, withIndex, fromFontRef, statesAxis};
+ghost use Rattle.font.specs.Charmap.{charmapIndex};
+ghost use Rattle.font.specs.Font.{fvarOf, axisCount, axisAt, axesOf, emptyFont, fontRefusal, fromFontRef, statesAxis};
 use crate::attributes::Angle;
 use crate::attributes::Attributes;
 use crate::attributes::FontStyle;
@@ -233,7 +234,7 @@ impl FontInfo {
 }
 
 fn refused(refusal: u8) -> Checked
-    ensures { λ r. ⌜ r ≡ refusedFont refusal ⌝ }
+    ensures { λ r. ⌜ r ≡ record { refusal = refusal; font = emptyFont } ⌝ }
 {
     Checked {
         refusal,
@@ -243,8 +244,8 @@ fn refused(refusal: u8) -> Checked
 
 // The face of a font file whose charmap index is known.
 fn with_index(font: &[u8], index: CharmapIndex) -> Checked
-    requires { ⌜ directoryFits (now font) ≡ true ⌝ }
-    ensures { λ r. ⌜ r ≡ withIndex (now (font .entry)) index ⌝ }
+    requires { ⌜ (directoryFits (now font) ≡ true) × (charmapIndex (now font) ≡ Charmap.Index index) ⌝ }
+    ensures { λ r. ⌜ r ≡ fromFontRef (now (font .entry)) ⌝ }
 {
     let fvar = tables::data_in(font, FVAR, 16);
     let count = axis_count(fvar);
@@ -275,12 +276,13 @@ fn axes_refusal(font: &[u8]) -> u8
 
 // The number with which `from_font_ref` refuses a font file, or 0.
 pub fn font_refusal(font: &[u8]) -> u8
-    ensures { λ r. ⌜ r ≡ fromFontRef (now (font .entry)) .refusal ⌝ }
+    ensures { λ r. ⌜ r ≡ fontRefusal (now (font .entry)) ⌝ }
 {
     if tables::directory_fits(font) {
-        match charmap::index_in(font) {
-            Charmap::Index(_) => axes_refusal(font),
-            Charmap::Missing => 22,
+        if charmap::has_index_in(font) {
+            axes_refusal(font)
+        } else {
+            22
         }
     } else {
         21

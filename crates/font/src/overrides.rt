@@ -7,7 +7,7 @@ ghost use lib.Ieee.{nan, eq};
 ghost use lib.Ieee.Scale.{finite};
 ghost use Rattle.font.specs.First.{every};
 ghost use Rattle.font.specs.Single.{single};
-ghost use Rattle.font.specs.Overrides.{ratioOf, styleOf, weightOf, overridden, axisOf, firstAxis, setDefault, setDefaults, pairCount, isNormal, replacedDefaults, acceptedAxis, acceptedFace, acceptedOverride, acceptedPairs, acceptedWidthOverride, acceptedStyleOverride, acceptedWeightOverride, refusalOf, faceRefusal, applyOverride, maybeOverrideAttributes};
+ghost use Rattle.font.specs.Overrides.{ratioOf, styleOf, weightOf, overridden, axisOf, firstAxis, setDefault, withAxes, withDefaults, pairCount, isNormal, replacedDefaults, acceptedAxis, acceptedFace, acceptedOverride, acceptedPairs, acceptedWidthOverride, acceptedStyleOverride, acceptedWeightOverride, refusalOf, faceRefusal, applyOverride, maybeOverrideAttributes};
 use crate::attributes;
 use crate::attributes::Attributes;
 use crate::attributes::FontStyle;
@@ -96,35 +96,31 @@ fn first_axis(axes: [AxisInfo; 16], count: usize, tag: u32) -> usize
     count
 }
 
-// The axes with the default of the first one of that tag set, if there is one.
-fn set_default(axes: [AxisInfo; 16], count: usize, tag: u32, value: f32) -> [AxisInfo; 16]
-    requires { ⌜ count ≤ 16 ⌝ }
-    ensures { λ r. ⌜ r ≡ setDefault axes count tag value ⌝ }
+// The face with the default of its first axis of that tag set, if there is one.
+pub fn with_default(font: FontInfo, tag: u32, value: f32) -> FontInfo
+    requires { ⌜ font .«axis_count» ≤ 16 ⌝ }
+    ensures { λ r. ⌜ r ≡ withAxes font (setDefault (font .axes) (font .«axis_count») tag value) ⌝ }
 {
-    let i = first_axis(axes, count, tag);
-    let mut set = axes;
-    if i < count {
-        let axis = axes[i];
-        set[i] = AxisInfo {
-            tag: axis.tag,
-            min: axis.min,
-            default: value,
-            max: axis.max,
-        };
+    let axes = font.axes;
+    let i = first_axis(axes, font.axis_count, tag);
+    if i < font.axis_count {
+        let mut set = font;
+        set.axes[i].default = value;
+        return set;
     }
-    set
+    font
 }
 
-// The axes after every pair of a tag and a value, in order.
-fn set_defaults(axes: [AxisInfo; 16], count: usize, tags: &[u32], values: &[f32]) -> [AxisInfo; 16]
-    requires { ⌜ count ≤ 16 ⌝ }
-    ensures { λ r. ⌜ r ≡ setDefaults axes count (now (tags .entry)) (now (values .entry)) (pairCount (now (tags .entry)) (now (values .entry))) ⌝ }
+// The face after every pair of a tag and a value, in order.
+fn with_defaults(font: FontInfo, tags: &[u32], values: &[f32]) -> FontInfo
+    requires { ⌜ font .«axis_count» ≤ 16 ⌝ }
+    ensures { λ r. ⌜ r ≡ withDefaults font (now (tags .entry)) (now (values .entry)) (pairCount (now (tags .entry)) (now (values .entry))) ⌝ }
 {
     let pairs = pair_count(tags.len(), values.len());
-    let mut set = axes;
+    let mut set = font;
     let mut k: usize = 0;
     while k < pairs {
-        let next = set_default(set, count, tags[k], values[k]);
+        let next = with_default(set, tags[k], values[k]);
         set = next;
         k += 1;
     }
@@ -263,9 +259,9 @@ impl FontInfo {
     {
         let refusal = refusal_of(self, override_accepted(o, tags, values));
         if refusal == 0 {
-            let own = self.axes;
+            let paired = with_defaults(self, tags, values);
+            let axes = paired.axes;
             let attributes = override_attributes(self.attributes, o);
-            let axes = set_defaults(own, self.axis_count, tags, values);
             let charmap_index = self.charmap_index;
             let font = FontInfo {
                 attributes,

@@ -1,13 +1,30 @@
 // The table directory of an OpenType font, and big-endian fields.
 ghost use mathlib.Core.Path.{_≡_};
 ghost use mathlib.Core.Bool.{true};
-ghost use Prim.Native.Nat.{_<_};
+ghost use Prim.Native.Nat.{_+_, _*_, _≤_};
+ghost use lib.ListN.{length};
 ghost use Rattle.font.specs.Tables.{u16At, u32At, startsAsFont, directoryFits, firstRecord, tableOfRecord, findTable, tableData};
 
 // Where the first table with a tag lies.
 pub enum Table {
     Absent,
     Found { offset: usize, length: usize },
+}
+
+// The 16-bit field at a position where it lies whole in the bytes.
+pub fn u16_in(s: &[u8], at: usize) -> u16
+    requires { ⌜ at + 2 ≤ length (now s) ⌝ }
+    ensures { λ r. ⌜ r ≡ u16At (now (s .entry)) at ⌝ }
+{
+    (s[at] as u16) * 256 + s[at + 1] as u16
+}
+
+// The 32-bit field at a position where it lies whole in the bytes.
+pub fn u32_in(s: &[u8], at: usize) -> u32
+    requires { ⌜ at + 4 ≤ length (now s) ⌝ }
+    ensures { λ r. ⌜ r ≡ u32At (now (s .entry)) at ⌝ }
+{
+    (u16_in(s, at) as u32) * 65536 + u16_in(s, at + 2) as u32
 }
 
 // The 16-bit field at a position, or 0 where it does not lie whole in the bytes.
@@ -20,7 +37,7 @@ pub fn u16_at(s: &[u8], at: usize) -> u16
     if s.len() - 2 < at {
         return 0;
     }
-    (s[at] as u16) * 256 + s[at + 1] as u16
+    u16_in(s, at)
 }
 
 // The 32-bit field at a position, or 0 where it does not lie whole in the bytes.
@@ -33,7 +50,7 @@ pub fn u32_at(s: &[u8], at: usize) -> u32
     if s.len() - 4 < at {
         return 0;
     }
-    (u16_at(s, at) as u32) * 65536 + u16_at(s, at + 2) as u32
+    u32_in(s, at)
 }
 
 fn starts_as_font(version: u32) -> bool
@@ -63,14 +80,15 @@ pub fn directory_fits(font: &[u8]) -> bool
     }
 }
 
-// The number of the first record with the tag, or the count of records where there is none.
+// The number of the first record with the tag, or the count of records where there is none; of a font whose directory fits.
 fn first_record(font: &[u8], tag: u32) -> usize
+    requires { ⌜ directoryFits (now font) ≡ true ⌝ }
     ensures { λ r. ⌜ r ≡ firstRecord (now (font .entry)) tag ⌝ }
 {
-    let count = u16_at(font, 4) as usize;
+    let count = u16_in(font, 4) as usize;
     let mut i: usize = 0;
     while i < count {
-        if u32_at(font, 12 + 16 * i) == tag {
+        if u32_in(font, 12 + 16 * i) == tag {
             return i;
         }
         i += 1;
@@ -78,13 +96,13 @@ fn first_record(font: &[u8], tag: u32) -> usize
     count
 }
 
-// The table of a record, if it lies in the file and has at least `least` bytes.
+// The table of a record that lies in the file, if the table does too and has at least `least` bytes.
 fn table_of_record(font: &[u8], least: usize, i: usize) -> Table
-    requires { ⌜ i < 65536 ⌝ }
+    requires { ⌜ 28 + 16 * i ≤ length (now font) ⌝ }
     ensures { λ r. ⌜ r ≡ tableOfRecord (now (font .entry)) least i ⌝ }
 {
-    let offset = u32_at(font, 20 + 16 * i) as usize;
-    let length = u32_at(font, 24 + 16 * i) as usize;
+    let offset = u32_in(font, 20 + 16 * i) as usize;
+    let length = u32_in(font, 24 + 16 * i) as usize;
     if length < least {
         return Table::Absent;
     }
@@ -100,7 +118,7 @@ pub(crate) fn table_in(font: &[u8], tag: u32, least: usize) -> Table
     ensures { λ r. ⌜ r ≡ findTable (now (font .entry)) tag least ⌝ }
 {
     let i = first_record(font, tag);
-    if i < u16_at(font, 4) as usize {
+    if i < u16_in(font, 4) as usize {
         return table_of_record(font, least, i);
     }
     Table::Absent

@@ -6,8 +6,8 @@ use mathlib.Core.Path.{_≡_}
 use borrow.Author.Needs.{needs}
 use native.Mathlib.Omega.{arith}
 use Rattle.font.specs.Charmap.{recordClass, bestClass, bestRecord}
-use Rattle.font.proofs.Least.{Best, best-start, best-new, best-kept, best-rest, best-done}
-use Rattle.font.proofs.Records.{past}
+use Rattle.font.proofs.Least.{Best, best-start, best-new, best-kept, best-done}
+use Rattle.font.proofs.Records.{best-before}
 use mathlib.Core.Logic.{⊎-elim}
 use Rattle.font.proofs.charmap.best_record.Statement.{statement}
 use Rattle.font.proofs.charmap.best_record.Tie as tie
@@ -37,7 +37,7 @@ returns c = let at = c .before .before in
     let f = recordClass cmap in
     let all =
     best-done 4 f (c .before .before .before .u16-at .result) (at .loop .best .class) (at .loop .best .i)
-    (best-rest 4 f (at .loop .i) (c .before .before .before .u16-at .result) (at .loop .best .class) (at .loop .best .i) (at .loop .inv .0) (λ k g. omega (arith, past cmap k (omega arith))) (at .loop .inv .1)) in
+    (best-before cmap (at .loop .i) (c .before .before .before .u16-at .result) (at .loop .best .class) (at .loop .best .i) (omega arith) (at .loop .inv .0) (at .loop .inv .1)) in
     let told = rw (c .before .before .before .u16-at .ensures) at all in
     (told .0, told .1, omega arith)
 

@@ -8,14 +8,14 @@ use borrow.Author.Needs.{needs}
 use Rattle.font.proofs.charmap.record_class.Statement.{statement}
 use Rattle.font.proofs.charmap.record_class.Tie as tie
 
-mul-u32-at : tie.Need-mul-u32-at
-mul-u32-at c = search needs
+mul-u32-in : tie.Need-mul-u32-in
+mul-u32-in c = search needs
 
-add-u32-at : tie.Need-add-u32-at
-add-u32-at c = search needs
+add-u32-in : tie.Need-add-u32-in
+add-u32-in c = search needs
 
-u32-at-requires : tie.Need-u32-at-requires
-u32-at-requires c κs = search needs
+u32-in-requires : tie.Need-u32-in-requires
+u32-in-requires c κs = search needs
 
 cast-offset : tie.Need-cast-offset
 cast-offset c = search needs
@@ -25,25 +25,25 @@ add-if1 c = search needs
 
 returns : tie.Need-returns
 unfolding recordClass qualifies subtableOffset
-returns c = simp (sym (c .before .u32-at .ensures), lt-leb _ _ (c .if1 .taken), le-leb _ _ (c .before .before .before .pre))
+returns c = simp (sym (c .before .u32-in .ensures), lt-leb _ _ (c .if1 .taken), le-leb _ _ (c .before .before .before .pre))
 
-mul-u16-at : tie.Need-mul-u16-at
-mul-u16-at c = search needs
+mul-u16-in : tie.Need-mul-u16-in
+mul-u16-in c = search needs
 
-add-u16-at : tie.Need-add-u16-at
-add-u16-at c = search needs
+add-u16-in : tie.Need-add-u16-in
+add-u16-in c = search needs
 
-u16-at-requires : tie.Need-u16-at-requires
-u16-at-requires c κs = search needs
+u16-in-requires : tie.Need-u16-in-requires
+u16-in-requires c κs = search needs
 
-mul-u16-at-2 : tie.Need-mul-u16-at-2
-mul-u16-at-2 c = search needs
+mul-u16-in-2 : tie.Need-mul-u16-in-2
+mul-u16-in-2 c = search needs
 
-add-u16-at-2 : tie.Need-add-u16-at-2
-add-u16-at-2 c = search needs
+add-u16-in-2 : tie.Need-add-u16-in-2
+add-u16-in-2 c = search needs
 
-u16-at-requires-2 : tie.Need-u16-at-requires-2
-u16-at-requires-2 c κs = search needs
+u16-in-requires-2 : tie.Need-u16-in-requires-2
+u16-in-requires-2 c κs = search needs
 
 class-of-requires : tie.Need-class-of-requires
 class-of-requires c κs = search needs
@@ -51,24 +51,24 @@ class-of-requires c κs = search needs
 returns-2 : tie.Need-returns-2
 unfolding recordClass qualifies subtableOffset
 returns-2 c = simp
-    (sym (c .before .before .before .before .u32-at .ensures), le-leb _ _ (c .before .before .before .if1 .left), le-leb _ _ (c .before .before .before .before .before .before .pre), sym (c .before .before .u16-at .ensures), sym (c .before .u16-at2 .ensures))
+    (sym (c .before .before .before .before .u32-in .ensures), le-leb _ _ (c .before .before .before .if1 .left), le-leb _ _ (c .before .before .before .before .before .before .pre), sym (c .before .before .u16-in .ensures), sym (c .before .u16-in2 .ensures))
     (c .class-of .ensures)
 
 pub record-class-spec : {M : Type 1} → statement M
 record-class-spec =
     tie.close
     (tie.spec
-    mul-u32-at
-    add-u32-at
-    u32-at-requires
+    mul-u32-in
+    add-u32-in
+    u32-in-requires
     cast-offset
     add-if1
     returns
-    mul-u16-at
-    add-u16-at
-    u16-at-requires
-    mul-u16-at-2
-    add-u16-at-2
-    u16-at-requires-2
+    mul-u16-in
+    add-u16-in
+    u16-in-requires
+    mul-u16-in-2
+    add-u16-in-2
+    u16-in-requires-2
     class-of-requires
     returns-2)

@@ -5,12 +5,12 @@ use lib.Ieee.{ofBits, ofInt, round}
 use Rattle.font.specs.Single.{single}
 use Rattle.font.specs.Attributes.{defaultAttributes}
 use Rattle.font.specs.First.{tabulate}
-use Rattle.font.specs.Font.{refusedFont, emptyFont, noAxis, noIndex}
+use Rattle.font.specs.Font.{emptyFont, noAxis, noIndex}
 use Rattle.font.proofs.font.refused.Statement.{statement}
 use Rattle.font.proofs.font.refused.Tie as tie
 
 returns : tie.Need-returns
-unfolding refusedFont emptyFont noAxis noIndex tabulate defaultAttributes single ofBits ofInt round
+unfolding emptyFont noAxis noIndex tabulate defaultAttributes single ofBits ofInt round
 returns c = refl
 
 pub refused-spec : {M : Type 1} → statement M

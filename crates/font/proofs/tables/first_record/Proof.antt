@@ -10,6 +10,7 @@ use native.Mathlib.Omega.{arith}
 use Rattle.font.specs.First.{first}
 use Rattle.font.specs.Tables.{firstRecord, recordTag, recordCount}
 use Rattle.font.proofs.First.{none-start, none-more, none-of-fewer, found}
+use Rattle.font.proofs.Lookup.{records-inside}
 use Rattle.font.proofs.tables.first_record.Statement.{statement}
 use Rattle.font.proofs.tables.first_record.Tie as tie
 
@@ -19,8 +20,8 @@ Inv-loop font tag count i₀ i = first (λ k. eqb (recordTag font k) tag) i ≡ 
 abbrev μ-loop : tie.MeasureT-loop
 μ-loop font tag count i₀ i = count - i
 
-u16-at-requires : tie.Need-u16-at-requires Inv-loop μ-loop
-u16-at-requires c κs = search needs
+u16-in-requires : tie.Need-u16-in-requires Inv-loop μ-loop
+u16-in-requires c κs = omega (arith, records-inside _ (c .before .pre))
 
 cast-count : tie.Need-cast-count Inv-loop μ-loop
 cast-count c = search needs
@@ -28,18 +29,19 @@ cast-count c = search needs
 loop-holds : tie.Need-loop-holds Inv-loop μ-loop
 loop-holds c = none-start _
 
-mul-u32-at : tie.Need-mul-u32-at Inv-loop μ-loop
-mul-u32-at c = search needs
+mul-u32-in : tie.Need-mul-u32-in Inv-loop μ-loop
+mul-u32-in c = search needs
 
-add-u32-at : tie.Need-add-u32-at Inv-loop μ-loop
-add-u32-at c = search needs
+add-u32-in : tie.Need-add-u32-in Inv-loop μ-loop
+add-u32-in c = search needs
 
-u32-at-requires : tie.Need-u32-at-requires Inv-loop μ-loop
-u32-at-requires c κs = search needs
+u32-in-requires : tie.Need-u32-in-requires Inv-loop μ-loop
+unfolding recordCount
+u32-in-requires c κs = omega (arith, records-inside _ (c .before .before .before .before .pre), c .before .before .u16-in .ensures)
 
 returns : tie.Need-returns Inv-loop μ-loop
 unfolding firstRecord recordTag recordCount
-returns c = found _ _ _ (c .before .before .before .loop .inv) (eq-eqb _ _ (sym (c .before .u32-at .ensures) ∙ c .if1 .taken)) (omega (arith, c .before .before .before .before .u16-at .ensures))
+returns c = found _ _ _ (c .before .before .before .loop .inv) (eq-eqb _ _ (sym (c .before .u32-in .ensures) ∙ c .if1 .taken)) (omega (arith, c .before .before .before .before .u16-in .ensures))
 
 add-i : tie.Need-add-i Inv-loop μ-loop
 add-i c = search needs
@@ -49,12 +51,12 @@ loop-less c = search needs
 
 loop-again : tie.Need-loop-again Inv-loop μ-loop
 unfolding firstRecord recordTag recordCount
-loop-again c = none-more _ _ (c .before .before .before .loop .inv) (ne-eqb _ _ (λ e. c .if1 .left (c .before .u32-at .ensures ∙ e)))
+loop-again c = none-more _ _ (c .before .before .before .loop .inv) (ne-eqb _ _ (λ e. c .if1 .left (c .before .u32-in .ensures ∙ e)))
 
 returns-2 : tie.Need-returns-2 Inv-loop μ-loop
 unfolding firstRecord recordTag recordCount
 returns-2 c =
-    sym (rw (← c .before .before .u16-at .ensures) (none-of-fewer _ _ _ (c .loop-test .left) (c .before .loop .inv)))
+    sym (rw (← c .before .before .u16-in .ensures) (none-of-fewer _ _ _ (c .loop-test .left) (c .before .loop .inv)))
 
 pub first-record-spec : {M : Type 1} → statement M
 first-record-spec =
@@ -62,12 +64,12 @@ first-record-spec =
     (tie.spec
     Inv-loop
     μ-loop
-    u16-at-requires
+    u16-in-requires
     cast-count
     loop-holds
-    mul-u32-at
-    add-u32-at
-    u32-at-requires
+    mul-u32-in
+    add-u32-in
+    u32-in-requires
     returns
     add-i
     loop-less

@@ -7,33 +7,33 @@ use borrow.Author.Needs.{needs}
 use Rattle.font.proofs.tables.table_of_record.Statement.{statement}
 use Rattle.font.proofs.tables.table_of_record.Tie as tie
 
-mul-u32-at : tie.Need-mul-u32-at
-mul-u32-at c = search needs
+mul-u32-in : tie.Need-mul-u32-in
+mul-u32-in c = search needs
 
-add-u32-at : tie.Need-add-u32-at
-add-u32-at c = search needs
+add-u32-in : tie.Need-add-u32-in
+add-u32-in c = search needs
 
-u32-at-requires : tie.Need-u32-at-requires
-u32-at-requires c κs = search needs
+u32-in-requires : tie.Need-u32-in-requires
+u32-in-requires c κs = search needs
 
 cast-offset : tie.Need-cast-offset
 cast-offset c = search needs
 
-mul-u32-at-2 : tie.Need-mul-u32-at-2
-mul-u32-at-2 c = search needs
+mul-u32-in-2 : tie.Need-mul-u32-in-2
+mul-u32-in-2 c = search needs
 
-add-u32-at-2 : tie.Need-add-u32-at-2
-add-u32-at-2 c = search needs
+add-u32-in-2 : tie.Need-add-u32-in-2
+add-u32-in-2 c = search needs
 
-u32-at-requires-2 : tie.Need-u32-at-requires-2
-u32-at-requires-2 c κs = search needs
+u32-in-requires-2 : tie.Need-u32-in-requires-2
+u32-in-requires-2 c κs = search needs
 
 cast-length : tie.Need-cast-length
 cast-length c = search needs
 
 returns : tie.Need-returns
 unfolding tableOfRecord recordOffset recordLength
-returns c = simp (sym (c .before .u32-at2 .ensures), lt-leb _ _ (c .if1 .taken))
+returns c = simp (sym (c .before .u32-in2 .ensures), lt-leb _ _ (c .if1 .taken))
 
 add-if2 : tie.Need-add-if2
 add-if2 c = search needs
@@ -41,24 +41,24 @@ add-if2 c = search needs
 returns-2 : tie.Need-returns-2
 unfolding tableOfRecord recordOffset recordLength
 returns-2 c = simp
-    (sym (c .before .before .before .u32-at .ensures), sym (c .before .before .u32-at2 .ensures), le-leb _ _ (c .before .if1 .left), lt-leb _ _ (c .if2 .taken))
+    (sym (c .before .before .before .u32-in .ensures), sym (c .before .before .u32-in2 .ensures), le-leb _ _ (c .before .if1 .left), lt-leb _ _ (c .if2 .taken))
 
 returns-3 : tie.Need-returns-3
 unfolding tableOfRecord recordOffset recordLength
 returns-3 c = simp
-    (sym (c .before .before .before .u32-at .ensures), sym (c .before .before .u32-at2 .ensures), le-leb _ _ (c .before .if1 .left), le-leb _ _ (c .if2 .left))
+    (sym (c .before .before .before .u32-in .ensures), sym (c .before .before .u32-in2 .ensures), le-leb _ _ (c .before .if1 .left), le-leb _ _ (c .if2 .left))
 
 pub table-of-record-spec : {M : Type 1} → statement M
 table-of-record-spec =
     tie.close
     (tie.spec
-    mul-u32-at
-    add-u32-at
-    u32-at-requires
+    mul-u32-in
+    add-u32-in
+    u32-in-requires
     cast-offset
-    mul-u32-at-2
-    add-u32-at-2
-    u32-at-requires-2
+    mul-u32-in-2
+    add-u32-in-2
+    u32-in-requires-2
     cast-length
     returns
     add-if2

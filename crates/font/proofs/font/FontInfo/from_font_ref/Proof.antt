@@ -1,7 +1,7 @@
 -- `font::font::FontInfo::from_font_ref` meets its contract: each answer is that of the tests that led to it.
 -- Assumes nothing.
 use mathlib.Core.Path.{sym, _∙_}
-use Rattle.font.specs.Font.{fromFontRef, withCharmap}
+use Rattle.font.specs.Font.{hasIndex, fontRefusal, fromFontRef}
 use borrow.Author.Needs.{needs}
 use Rattle.font.proofs.font.FontInfo.from_font_ref.Statement.{statement}
 use Rattle.font.proofs.font.FontInfo.from_font_ref.Tie as tie
@@ -16,7 +16,10 @@ enum-known-index : tie.Need-enum-known-index
 enum-known-index c = search needs
 
 with-index-requires : tie.Need-with-index-requires
-with-index-requires c κs = sym (c .before .before .before .before .before .directory-fits .ensures) ∙ c .before .before .before .before .if1 .taken
+with-index-requires c κs = (
+  sym (c .before .before .before .before .before .directory-fits .ensures) ∙ c .before .before .before .before .if1 .taken,
+  sym (c .before .before .before .index-in .ensures) ∙ c .before .index .given .1,
+)
 
 enum-told : tie.Need-enum-told
 enum-told c = search needs
@@ -28,17 +31,15 @@ refused-requires-2 : tie.Need-refused-requires-2
 refused-requires-2 c κs = search needs
 
 returns : tie.Need-returns
-unfolding fromFontRef withCharmap
-returns c = simp
-    (sym (c .before .before .before .before .before .before .directory-fits .ensures), c .before .before .before .before .before .if1 .taken, sym (c .before .before .before .before .index-in .ensures) ∙ c .before .before .index .given .1, sym (c .with-index .ensures))
+returns c = c .with-index .ensures
 
 returns-2 : tie.Need-returns-2
-unfolding fromFontRef withCharmap
+unfolding fromFontRef fontRefusal hasIndex
 returns-2 c = simp
     (sym (c .before .before .before .before .before .directory-fits .ensures), c .before .before .before .before .if1 .taken, sym (c .before .before .before .index-in .ensures) ∙ c .before .enum-told .given .1, sym (c .refused .ensures))
 
 returns-3 : tie.Need-returns-3
-unfolding fromFontRef withCharmap
+unfolding fromFontRef fontRefusal
 returns-3 c = simp (sym (c .before .before .directory-fits .ensures), c .before .if1 .left, sym (c .refused2 .ensures))
 
 pub from-font-ref-spec : {M : Type 1} → statement M

@@ -1,0 +1,19 @@
+-- `font::charmap::has_index_in` meets its contract.
+-- Assumes nothing.
+use mathlib.Core.Path.{sym, _∙_}
+use Rattle.font.proofs.Records.{font-has}
+use borrow.Author.Needs.{needs}
+use Rattle.font.proofs.charmap.has_index_in.Statement.{statement}
+use Rattle.font.proofs.charmap.has_index_in.Tie as tie
+
+data-in-requires : tie.Need-data-in-requires
+data-in-requires c κs = search needs
+
+has-class-requires : tie.Need-has-class-requires
+has-class-requires c κs = search needs
+
+returns : tie.Need-returns
+returns c = rw (c .before .data-in .ensures) at (c .has-class .ensures) ∙ sym (font-has _)
+
+pub has-index-in-spec : {M : Type 1} → statement M
+has-index-in-spec = tie.close (tie.spec data-in-requires has-class-requires returns)
