@@ -7,6 +7,7 @@ pub mod Before
 pub mod Choice
 pub mod Scans
 pub mod Demand
+pub mod Alike
 pub mod Fill
 pub mod Gathered
 pub mod Matched

@@ -1,11 +1,11 @@
 -- Demand 3's first half of `match_font`: its answer for a family of two or more faces that is not refused.
 use Prim.Native.Nat.{ℕ, _^_, _≤_, _<_}
-use mathlib.Core.Path.{_≡_, refl, sym, _∙_, subst}
+use mathlib.Core.Path.{_≡_, refl, sym, _∙_, ap, subst}
 use mathlib.Core.Bool.{Bool, true, false, cond}
 use mathlib.Core.List.{List}
 use mathlib.Core.Logic.{_⊎_, inl, inr}
 use native.Mathlib.Omega.{arith}
-use native.Mathlib.Decide.{decLt, ℕ-discrete}
+use native.Mathlib.Decide.{decLt}
 use lib.Dec.{ltb}
 use lib.Ieee.{Float, nan, inf, fin, binary32, toBits, isNan, mul, toUnsigned}
 use lib.ListN.{getD}
@@ -16,9 +16,11 @@ use Rattle.font.specs.declared.attributes.FontStyle.{FontStyle}
 use Rattle.font.specs.declared.attributes.FontStyle.the-variants.{Normal, Italic, Oblique}
 use Rattle.font.specs.declared.attributes.Attributes.{Attributes}
 use Rattle.font.specs.declared.font.FontInfo.{FontInfo}
+use Rattle.matching.specs.declared.matching.Matches.{Matches}
+use Rattle.matching.specs.declared.matching.Choice.{Choice}
 use Rattle.matching.specs.declared.matching.Choice.the-variants.{Place, Nothing, Refused}
-use Rattle.matching.specs.Order.{Face, standsBefore, choice, Demand}
-use Rattle.matching.specs.Matching.{styleNumber, faceOf, noFace, blank, familyOf, requestOf, facesRefusal, familyRefusal, answered, matchFont, Chosen}
+use Rattle.matching.specs.Order.{Face, standsBefore, choice, equalPlaces, laidOut, Demand}
+use Rattle.matching.specs.Matching.{styleNumber, faceOf, noFace, blank, familyOf, requestOf, facesRefusal, familyRefusal, answered, matchFont, Chosen, ChosenOf, equalList}
 use Rattle.matching.proofs.Below.{truth}
 use Rattle.matching.proofs.Standings.{pick}
 use Rattle.matching.proofs.Before.{Bounded}
@@ -91,25 +93,16 @@ module _ (fonts : List FontInfo) (n : ℕ) where
     unfolding answered
     nothing e k q l = sym (accepted e ∙ rw (← q, le-ltb k n l))
 
-    -- a place that is answered is in a family that is not too large
-    pub place-in : (p : ℕ) → matchFont fonts n a on ≡ Place p → (n ≤ 64) × (p < n)
-    unfolding answered
-    place-in p q = elim (ℕ-discrete (familyRefusal fonts n a) 0) [ yes e ↦ go e (truth (ltb r n)) | no d ↦ absurd (not-refused (refused d)) ]
+    -- the equal list is that of the chosen place, which is not below the count where none is chosen
+    pub listed : familyRefusal fonts n a ≡ 0 → (k : ℕ) → k ≡ choice (familyOf fonts n) (requestOf a on)
+        → _≡_ {A = Matches} (record { refusal = 0; list = laidOut (equalPlaces (familyOf fonts n) k) }) (equalList fonts n (matchFont fonts n a on))
+    unfolding equalList equalPlaces familyOf
+    listed e k q = go (truth (ltb k n))
       where
-        r : ℕ
-        r = choice (familyOf fonts n) (requestOf a on)
-
-        not-refused : matchFont fonts n a on ≡ Refused (familyRefusal fonts n a) → ⊥
-        not-refused k = let z : _≡_ {A = ℕ} 0 1 = cc in omega arith
-
-        go : familyRefusal fonts n a ≡ 0 → (ltb r n ≡ true) ⊎ (ltb r n ≡ false) → (n ≤ 64) × (p < n)
-        go e (inl t) =
-            let same : Place r ≡ Place p = found e r refl (ltb-true r n t) ∙ q in
-            let k : r ≡ p = cc in
-            (few e, omega (arith, ltb-true r n t))
-        go e (inr f) =
-            let same : Nothing ≡ Place p = nothing e r refl (ltb-false r n f) ∙ q in
-            absurd (let z : _≡_ {A = ℕ} 0 1 = cc in omega arith)
+        go : (ltb k n ≡ true) ⊎ (ltb k n ≡ false)
+            → _≡_ {A = Matches} (record { refusal = 0; list = laidOut (equalPlaces (familyOf fonts n) k) }) (equalList fonts n (matchFont fonts n a on))
+        go (inl t) = ap (equalList fonts n) (found e k q (ltb-true k n t))
+        go (inr f) = rw f (ap (equalList fonts n) (nothing e k q (ltb-false k n f)))
 
     pub chosen : familyRefusal fonts n a ≡ 0 → 2 ≤ n → Chosen (familyOf fonts n) (requestOf a on) (matchFont fonts n a on)
     unfolding answered familyOf
@@ -135,6 +128,11 @@ module _ (fonts : List FontInfo) (n : ℕ) where
           none = λ q. law .none (omega (arith, ltb-false r n f, law .within));
           empty = λ q. refl;
         })
+
+    -- so an answer that is the definition's has what demand 3 says
+    pub answer : (r : Choice) → r ≡ matchFont fonts n a on
+        → (r ≡ matchFont fonts n a on) × ChosenOf fonts n a on r
+    answer r e = (e, λ z t. subst (Chosen (familyOf fonts n) (requestOf a on)) (sym e) (chosen z t))
 
 -- "No face for an empty family; place 0 for one face."
 pub none-of-none : (fonts : List FontInfo) (a : Attributes) (on : Bool) → familyRefusal fonts 0 a ≡ 0 → matchFont fonts 0 a on ≡ Nothing

@@ -1,20 +1,21 @@
 -- The one law of a scan, used for width, style and weight: the place in the least rank is the first of the things kept, or none of them has a group.
 -- And what the three scans find is the choice.
-use Prim.Native.Nat.{ℕ, _-_, _/_, _%_, _^_, _≤_, _<_}
+use Prim.Native.Nat.{ℕ, _+_, _-_, _/_, _%_, _^_, _≤_, _<_, min}
 use mathlib.Core.Path.{_≡_, refl, sym, _∙_, ap, subst}
 use mathlib.Core.Bool.{Bool, true, false, _&&_, cond}
 use mathlib.Core.Logic.{_⊎_, inl, inr, ⊎-elim}
 use native.Mathlib.Omega.{arith}
 use lib.Dec.{eqb}
 use borrow.Author.Tests.{eq-eqb, eqb-true}
+use borrow.Author.Count.{below-more}
 use Rattle.font.specs.First.{leastBelow}
 use Rattle.matching.specs.declared.order.Request.{Request}
 use Rattle.matching.specs.declared.rank.Standing.{Standing}
 use Rattle.matching.specs.Rank.{grouped}
-use Rattle.matching.specs.Packed.{packed, placeOf}
+use Rattle.matching.specs.Packed.{packed, placeOf, Scanned}
 use Rattle.matching.specs.Below.{some}
-use Rattle.matching.specs.Order.{Family, widthStanding, styleStanding, weightStanding, samePercent, bears, slantAt, inWidth, inStyle, inWeight, hasGroup, choice}
-use Rattle.matching.proofs.Below.{truth, clash, both, join, least-le, least-top, least-at}
+use Rattle.matching.specs.Order.{Face, Family, widthStanding, styleStanding, weightStanding, samePercent, bears, slantAt, inWidth, inStyle, inWeight, hasGroup, choice}
+use Rattle.matching.proofs.Below.{truth, clash, both, join, least-le, least-top, least-at, least-more}
 use Rattle.matching.proofs.Ranks.{Sized, packed-below, ungrouped, place-back}
 use Rattle.matching.proofs.Standings.{pick, width-sized, width-grouped, weight-sized, weight-grouped, style-sized}
 use Rattle.matching.proofs.Before.{Bounded, slant-same, bears-from, bears-parts, percent-same, same-percent}
@@ -24,6 +25,25 @@ use Rattle.matching.proofs.Choice.{none-chosen, chosen}
 pub place-short : (r : ℕ) → placeOf r < 64
 unfolding placeOf
 place-short r = pick (λ p. p < 64) (eqb (r / 2 ^ 38 % 2) 0) (omega arith) (omega arith)
+
+-- a scan before its first turn, a turn of it, and the scan when it has passed every place
+abbrev Passed : (ℕ → Face) → (Face → ℕ → ℕ) → (Face → ℕ) → ℕ → ℕ → Type 0
+Passed face rank number i best = Scanned (record { count = i; face = face }) rank number best
+
+module _ {face : ℕ → Face} {rank : Face → ℕ → ℕ} {number : Face → ℕ} where
+  pub scan-none : Passed face rank number 0 (2 ^ 64 - 1)
+  unfolding leastBelow
+  scan-none = record { least = refl; short = λ j h. absurd (omega arith) }
+
+  pub scan-more : {i best next lower : ℕ} → Passed face rank number i best → (next ≡ rank (face i) i) × (number (face i) < 2 ^ 32) → lower ≡ min best next
+      → Passed face rank number (i + 1) lower
+  scan-more {i} {best} {next} {lower} s e l = record {
+    least = least-more (2 ^ 64 - 1) (λ j. rank (face j) j) i (s .least) (e .0) l;
+    short = below-more _ _ (s .short) (e .1);
+  }
+
+  pub scan-all : {i n best : ℕ} → Passed face rank number i best → i ≡ n → Passed face rank number n best
+  scan-all {i} {n} {best} s e = subst (λ (k : ℕ). Passed face rank number k best) e s
 
 module _ (keep : ℕ → Bool) (st : ℕ → Standing) (n : ℕ) (most : n ≤ 64) (sized : (i : ℕ) → i < n → Sized (st i)) where
   abbrev rank : ℕ → ℕ

@@ -8,14 +8,14 @@ use Rattle.font.specs.declared.font.FontInfo.{FontInfo}
 use Rattle.matching.specs.declared.family.FamilyInfo.{FamilyInfo}
 use Rattle.matching.specs.declared.family.Made.{Made}
 use Rattle.matching.specs.declared.family.Fetched.{Fetched}
-use Rattle.matching.specs.Matching.{noFace, facesRefusal, defaultPlace}
+use Rattle.matching.specs.Matching.{noFace, familyOf, facesRefusal, defaultPlace}
 
 -- a family is made of its faces; a refused one has the default 0 and counts for nothing
 unfoldable pub madeOf : List FontInfo → ℕ → Made
 madeOf fonts n =
     record {
       refusal = facesRefusal fonts n;
-      family = record { fonts = fonts; count = n; «default_font» = cond (eqb (facesRefusal fonts n) 0) (defaultPlace fonts n) 0 };
+      family = record { fonts = fonts; count = n; «default_font» = cond (eqb (facesRefusal fonts n) 0) (defaultPlace (familyOf fonts n)) 0 };
     }
 
 -- "`FamilyInfo::match_font` only fetches the face and refuses nothing further for a valid place": 19, then 24, and no 26.

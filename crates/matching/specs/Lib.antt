@@ -4,6 +4,7 @@ pub mod Below
 pub mod Order
 pub mod Packed
 pub mod Matching
+pub mod Rows
 pub mod Family
 pub mod Synthesis
 pub mod Faces

@@ -1,7 +1,7 @@
 -- Section 4 for faces by value: the numbers that the order looks at, the choice, the equal list, the default, and the refusals of calls on a family by value.
-use Prim.Native.Nat.{ℕ, _<_, min}
+use Prim.Native.Nat.{ℕ, _≤_, _<_, min}
 use mathlib.Core.Path.{_≡_}
-use mathlib.Core.Bool.{Bool, true, false, _&&_, _||_, cond}
+use mathlib.Core.Bool.{Bool, true, false, _||_, cond}
 use mathlib.Core.List.{List, []}
 use lib.Dec.{ltb, eqb}
 use lib.Ieee.{nan}
@@ -20,10 +20,10 @@ use Rattle.font.specs.declared.font.AxisInfo.{AxisInfo}
 use Rattle.font.specs.declared.font.FontInfo.{FontInfo}
 use Rattle.matching.specs.declared.order.Request.{Request}
 use Rattle.matching.specs.declared.matching.Matches.{Matches}
-use Rattle.matching.specs.Below.{some, placesBelow}
+use Rattle.matching.specs.Below.{some}
 use Rattle.matching.specs.declared.matching.Choice.{Choice}
 use Rattle.matching.specs.declared.matching.Choice.the-variants.{Place, Nothing, Refused}
-use Rattle.matching.specs.Order.{Face, Family, standsBefore, choice, emptyCase, laidOut}
+use Rattle.matching.specs.Order.{Face, Family, standsBefore, choice, emptyCase, equalPlaces, laidOut}
 
 -- A style as one number: 0 normal, 1 italic, 2 oblique unstated, and else the order number of the stated angle, raised by 2^31.
 unfoldable pub styleNumber : FontStyle → ℕ
@@ -54,13 +54,14 @@ hasAxis font tag = ltb (axisPlace font tag) (axisCount font)
 unfoldable pub slnt : ℕ
 slnt = 0x736C6E74
 
--- what the order looks at in a face
+-- a face by value as the order and the equal list look at it
 unfoldable pub faceOf : FontInfo → Face
 faceOf font =
     record {
       percent = wholePercent (font .attributes .width .ratio);
       style = styleNumber (font .attributes .style);
       weight = orderKey (font .attributes .weight .value);
+      ratio = orderKey (font .attributes .width .ratio);
       slant = hasAxis font slnt;
     }
 
@@ -76,7 +77,7 @@ noFace =
 
 -- past the count a family has no faces
 unfoldable pub blank : Face
-blank = record { percent = 0; style = 0; weight = 0; slant = false }
+blank = record { percent = 0; style = 0; weight = 0; ratio = 0; slant = false }
 
 unfoldable pub familyOf : List FontInfo → ℕ → Family
 familyOf fonts n = record { count = n; face = λ i. cond (ltb i n) (faceOf (getD fonts i noFace)) blank }
@@ -122,19 +123,17 @@ pub record Chosen (family : Family) (request : Request) (answer : Choice) : Type
   pub none : answer ≡ Nothing → emptyCase family request ≡ true
   pub empty : emptyCase family request ≡ true → answer ≡ Nothing
 
--- "The equal list is every place whose exact ratio, style and weight equal the chosen face's, in place order; empty where none is chosen."
-unfoldable pub exactSame : List FontInfo → ℕ → ℕ → Bool
-exactSame fonts p j =
-    eqb (orderKey (getD fonts j noFace .attributes .width .ratio)) (orderKey (getD fonts p noFace .attributes .width .ratio))
-    && (eqb (styleNumber (getD fonts j noFace .attributes .style)) (styleNumber (getD fonts p noFace .attributes .style))
-    && eqb (orderKey (getD fonts j noFace .attributes .weight .value)) (orderKey (getD fonts p noFace .attributes .weight .value)))
+-- and of the answer of `match_font`: for two or more faces, where the call is not refused
+abbrev pub ChosenOf : List FontInfo → ℕ → Attributes → Bool → Choice → Type 0
+ChosenOf fonts n a on answer = familyRefusal fonts n a ≡ 0 → 2 ≤ n → Chosen (familyOf fonts n) (requestOf a on) answer
 
+-- the equal list of an answer
 unfoldable pub equalList : List FontInfo → ℕ → Choice → Matches
-equalList fonts n (Place p) = record { refusal = 0; list = laidOut (placesBelow (exactSame fonts p) n) }
+equalList fonts n (Place p) = record { refusal = 0; list = laidOut (equalPlaces (familyOf fonts n) p) }
 equalList fonts n Nothing = record { refusal = 0; list = laidOut [] }
 equalList fonts n (Refused number) = record { refusal = number; list = laidOut [] }
 
 -- "A family's default is its choice for default attributes with synthesis off, or 0."
-unfoldable pub defaultPlace : List FontInfo → ℕ → ℕ
-defaultPlace fonts n =
-    cond (ltb (choice (familyOf fonts n) (requestOf defaultAttributes false)) n) (choice (familyOf fonts n) (requestOf defaultAttributes false)) 0
+unfoldable pub defaultPlace : Family → ℕ
+defaultPlace family =
+    cond (ltb (choice family (requestOf defaultAttributes false)) (family .count)) (choice family (requestOf defaultAttributes false)) 0

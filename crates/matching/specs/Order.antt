@@ -2,9 +2,9 @@
 use Prim.Native.Nat.{ℕ, _-_, _≤_, _<_}
 use mathlib.Core.Path.{_≡_}
 use mathlib.Core.Bool.{Bool, true, false, not, _&&_, _||_, cond}
-use mathlib.Core.List.{List, _++_}
+use mathlib.Core.List.{List, [], _++_}
 use lib.Dec.{leb, ltb, eqb}
-use lib.ListN.{getD, length, replicate}
+use lib.ListN.{length, replicate}
 use lib.Ieee.{neg}
 use Rattle.font.specs.First.{first}
 use Rattle.font.specs.Single.{single, orderKey}
@@ -14,15 +14,18 @@ use Rattle.matching.specs.declared.stages.Places.{Places}
 -- A request: its whole percent, its style and weight as numbers, as those of a face, and whether synthesis is on.
 use Rattle.matching.specs.declared.order.Request.{Request}
 use Rattle.matching.specs.Rank.{before, grouped}
-use Rattle.matching.specs.Below.{some, every, last}
+use Rattle.matching.specs.Below.{some, every, last, placesBelow}
 
--- What the order looks at in a face: its whole percent, its style, its weight, and whether it has a slant axis (`slnt`). Weights and angles are given by
--- their order numbers raised by 2^31 (section 1), so that equality and comparison are those of section 1 and both zeros are one number.
+-- A face: its whole percent, its style, its weight, its exact ratio, and whether it has a slant axis (`slnt`). The order looks at all but the exact ratio, which
+-- the equal list looks at. Weights, ratios and angles are given by their order numbers raised by 2^31 (section 1), so that equality and comparison are those of
+-- section 1 and both zeros are one number.
 -- A style is one number too: 0 normal, 1 italic, 2 oblique unstated; any other number is oblique stated, and is the angle. No finite angle is 0, 1 or 2.
 pub record Face : Type 0 where
   pub percent : ℕ
   pub style : ℕ
   pub weight : ℕ
+  -- the exact ratio, by its order number
+  pub ratio : ℕ
   pub slant : Bool
 
 -- A family: its faces by place. Only those below the count are of the family.
@@ -124,14 +127,6 @@ weightStanding w x =
     (cond (ltb w x) (Up 1 x) (Down 2 x))
     (cond (ltb x w) (Down 2 x) (cond (leb x fiveHundred) (Up 1 x) (Up 3 x)))))
 
--- The family whose faces are given by a list for each number.
-unfoldable pub faceOfLists : List ℕ → List ℕ → List ℕ → List Bool → ℕ → Face
-faceOfLists percents styles weights slants i =
-    record { percent = getD percents i 0; style = getD styles i 0; weight = getD weights i 0; slant = getD slants i false }
-
-unfoldable pub familyOfLists : List ℕ → List ℕ → List ℕ → List Bool → ℕ → Family
-familyOfLists percents styles weights slants n = record { count = n; face = faceOfLists percents styles weights slants }
-
 module _ (family : Family) where
   -- the face at place j has the percent of the one at place i; and the same style besides
   unfoldable pub samePercent : ℕ → ℕ → Bool
@@ -221,12 +216,14 @@ pub record Demand (family : Family) (request : Request) (r : ℕ) : Type 0 where
   pub none : r ≡ family .count → emptyCase family request ≡ true
   pub empty : emptyCase family request ≡ true → r ≡ family .count
 
--- "The equal list is every place whose exact ratio, style and weight equal the chosen face's, in place order". Ratios, styles and weights are given by a list each,
--- as order numbers and style numbers.
-unfoldable pub equalTo : List ℕ → List ℕ → List ℕ → ℕ → ℕ → Bool
-equalTo ratios styles weights chosen j =
-    eqb (getD ratios j 0) (getD ratios chosen 0)
-    && (eqb (getD styles j 0) (getD styles chosen 0) && eqb (getD weights j 0) (getD weights chosen 0))
+-- "The equal list is every place whose exact ratio, style and weight equal the chosen face's, in place order; empty where none is chosen." The count, as any
+-- number not below it, stands for none.
+unfoldable pub sameFace : Face → Face → Bool
+sameFace a b = eqb (a .ratio) (b .ratio) && (eqb (a .style) (b .style) && eqb (a .weight) (b .weight))
+
+unfoldable pub equalPlaces : Family → ℕ → List ℕ
+equalPlaces family chosen =
+    cond (ltb chosen (family .count)) (placesBelow (λ i. sameFace (family .face i) (family .face chosen)) (family .count)) []
 
 -- The list as the code carries it: 64 places, those past its length zero.
 unfoldable pub padded : List ℕ → List ℕ

@@ -2,6 +2,8 @@
 ghost use mathlib.Core.Path.{_≡_};
 ghost use Rattle.matching.specs.Family.{madeOf, fetched};
 use crate::matching;
+use crate::rows;
+use crate::stages;
 use font::font::FontInfo;
 
 // The faces of a family by value, with the place of its default. Faces past the count are no part of it.
@@ -31,7 +33,8 @@ impl FamilyInfo {
         let refusal = matching::faces_refusal(fonts, count);
         let mut default_font: usize = 0;
         if refusal == 0 {
-            default_font = matching::default_place(fonts, count);
+            let rows = rows::rows_of(fonts, count);
+            default_font = stages::default_place(&rows, count);
         }
         let family = FamilyInfo {
             fonts,

@@ -5,5 +5,6 @@ pub mod family;
 pub mod matching;
 pub mod order;
 pub mod rank;
+pub mod rows;
 pub mod stages;
 pub mod synthesis;

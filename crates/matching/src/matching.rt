@@ -1,14 +1,10 @@
 // Implementation of the CSS font matching algorithm, on a family by value.
 ghost use mathlib.Core.Path.{_≡_};
-ghost use Prim.Native.Nat.{_≤_, _<_};
-ghost use Rattle.matching.specs.Order.{choice, laidOut};
 ghost use mathlib.Core.Bool.{cond};
 ghost use lib.Dec.{eqb};
-ghost use Rattle.font.specs.Single.{orderKey};
-ghost use Rattle.matching.specs.Below.{placesBelow};
-ghost use Rattle.matching.specs.Matching.{styleNumber, familyOf, requestOf, attributesFrom, facesRefusal, familyRefusal, matchFont, Chosen, exactSame, equalList, defaultPlace};
-use crate::axes;
+ghost use Rattle.matching.specs.Matching.{styleNumber, requestOf, attributesFrom, facesRefusal, familyRefusal, matchFont, ChosenOf, equalList};
 use crate::order::Request;
+use crate::rows;
 use crate::stages;
 use crate::stages::Places;
 use font::attributes::Angle;
@@ -45,29 +41,6 @@ pub fn style_number(style: FontStyle) -> u32
             Angle::Degrees(x) => single::order_number(x),
         },
     }
-}
-
-// The chosen place of a family of at most 64 faces, or the count where no face is chosen.
-fn place_for(fonts: [FontInfo; 64], count: usize, request: Request) -> usize
-    requires { ⌜ count ≤ 64 ⌝ }
-    ensures { λ r. ⌜ r ≡ choice (familyOf fonts count) request ⌝ }
-{
-    let mut percents = [0u32; 64];
-    let mut styles = [0u32; 64];
-    let mut weights = [0u32; 64];
-    let mut slants = [false; 64];
-    let mut i: usize = 0;
-    while i < count {
-        let font = fonts[i];
-        let attributes = font.attributes;
-        let style = attributes.style;
-        percents[i] = single::whole_percent(attributes.width.ratio);
-        styles[i] = style_number(style);
-        weights[i] = single::order_number(attributes.weight.value);
-        slants[i] = axes::has_axis(font, axes::SLNT);
-        i += 1;
-    }
-    stages::choose(&percents, &styles, &weights, &slants, count, request)
 }
 
 // The request's numbers.
@@ -135,7 +108,7 @@ pub fn match_font(
     synthesize_style: bool,
 ) -> Choice
     ensures { λ r. ⌜ r ≡ matchFont fonts count (attributesFrom width style weight) «synthesize_style» ⌝ }
-    ensures demand { λ r. ⌜ (familyRefusal fonts count (attributesFrom width style weight) ≡ 0 → 2 ≤ count → Chosen (familyOf fonts count) (requestOf (attributesFrom width style weight) «synthesize_style») r) ⌝ }
+    ensures demand { λ r. ⌜ ChosenOf fonts count (attributesFrom width style weight) «synthesize_style» r ⌝ }
 {
     let attributes = Attributes {
         width,
@@ -146,39 +119,12 @@ pub fn match_font(
     if refusal != 0 {
         return Choice::Refused(refusal);
     }
-    let place = place_for(fonts, count, request_of(attributes, synthesize_style));
+    let rows = rows::rows_of(fonts, count);
+    let place = stages::choose(&rows, count, request_of(attributes, synthesize_style));
     if place < count {
         return Choice::Place(place);
     }
     Choice::Nothing
-}
-
-// The exact ratio as a number: not the whole percent.
-fn ratio_number(ratio: f32) -> u32
-    ensures { λ r. ⌜ r ≡ orderKey ratio ⌝ }
-{
-    single::order_number(ratio)
-}
-
-// The places whose ratio, style and weight equal those of a face of the family.
-fn equal_list(fonts: [FontInfo; 64], count: usize, chosen: usize) -> Places
-    requires { ⌜ (count ≤ 64) × (chosen < count) ⌝ }
-    ensures { λ r. ⌜ r ≡ laidOut (placesBelow (exactSame fonts chosen) count) ⌝ }
-{
-    let mut ratios = [0u32; 64];
-    let mut styles = [0u32; 64];
-    let mut weights = [0u32; 64];
-    let mut i: usize = 0;
-    while i < count {
-        let font = fonts[i];
-        let attributes = font.attributes;
-        let style = attributes.style;
-        ratios[i] = ratio_number(attributes.width.ratio);
-        styles[i] = style_number(style);
-        weights[i] = single::order_number(attributes.weight.value);
-        i += 1;
-    }
-    stages::equal_places(&ratios, &styles, &weights, count, chosen)
 }
 
 // Every place whose exact ratio, style and weight equal the chosen face's, in place order.
@@ -192,28 +138,20 @@ pub fn match_fonts(
 ) -> Matches
     ensures { λ r. ⌜ r ≡ equalList fonts count (matchFont fonts count (attributesFrom width style weight) «synthesize_style») ⌝ }
 {
-    let best = match_font(fonts, count, width, style, weight, synthesize_style);
-    match best {
-        Choice::Place(place) => {
-            let list = equal_list(fonts, count, place);
-            Matches { refusal: 0, list }
-        }
-        Choice::Nothing => Matches {
-            refusal: 0,
-            list: stages::none(),
-        },
-        Choice::Refused(refusal) => Matches {
+    let attributes = Attributes {
+        width,
+        style,
+        weight,
+    };
+    let refusal = family_refusal(fonts, count, attributes);
+    if refusal != 0 {
+        return Matches {
             refusal,
             list: stages::none(),
-        },
+        };
     }
-}
-
-// The choice for default attributes with synthesis off, or 0.
-pub(crate) fn default_place(fonts: [FontInfo; 64], count: usize) -> usize
-    requires { ⌜ count ≤ 64 ⌝ }
-    ensures { λ r. ⌜ r ≡ defaultPlace fonts count ⌝ }
-{
-    let place = place_for(fonts, count, request_of(Attributes::DEFAULT, false));
-    if place < count { place } else { 0 }
+    let rows = rows::rows_of(fonts, count);
+    let place = stages::choose(&rows, count, request_of(attributes, synthesize_style));
+    let list = stages::equal_places(&rows, count, place);
+    Matches { refusal: 0, list }
 }

@@ -1,17 +1,21 @@
-// The choice of a face, from an array for each number: three scans for the least rank, and no copy of the candidates.
+// The choice of a face from the rows of a family: three scans for the least rank, and no copy of the candidates.
+// And the default and the equal list.
 ghost use mathlib.Core.Path.{_≡_};
-ghost use mathlib.Core.Bool.{cond, false, _&&_};
+ghost use mathlib.Core.Bool.{cond, _&&_};
 ghost use Prim.Native.Nat.{_-_, _^_, _<_, _≤_};
-ghost use lib.Dec.{eqb};
-ghost use lib.ListN.{getD};
 ghost use mathlib.Core.List.{[]};
-ghost use Rattle.font.specs.First.{leastBelow};
-ghost use Rattle.matching.specs.Packed.{packed, placeOf, Short};
-ghost use Rattle.matching.specs.Below.{some, placesBelow};
-ghost use Rattle.matching.specs.Order.{widthStanding, styleStanding, weightStanding, familyOfLists, choice, equalTo, laidOut};
+ghost use Rattle.matching.specs.Packed.{packed, widthRank, styleRank, weightRank, slants, Scanned};
+ghost use Rattle.matching.specs.Below.{some};
+ghost use Rattle.matching.specs.Order.{Face, widthStanding, styleStanding, weightStanding, choice, equalPlaces, laidOut};
+ghost use Rattle.matching.specs.Matching.{defaultPlace};
+ghost use Rattle.matching.specs.Rows.{familyOfRows};
+use crate::matching;
 use crate::order;
 use crate::order::Request;
 use crate::rank;
+use crate::rows;
+use crate::rows::Row;
+use font::attributes::Attributes;
 
 // The rank of a face in width. That a number is of 32 bits is what the laws of ranks ask; each of the three says it of its own.
 fn width_rank(wanted: u32, percent: u32, place: usize) -> u64
@@ -49,34 +53,29 @@ fn weight_rank(width: bool, style: bool, wanted: u32, weight: u32, place: usize)
 }
 
 // The least rank in width.
-fn width_stage(percents: &[u32; 64], count: usize, wanted: u32) -> u64
+fn width_stage(rows: &[Row; 64], count: usize, request: Request) -> u64
     requires { ⌜ count ≤ 64 ⌝ }
-    ensures { λ r. ⌜ (r ≡ leastBelow (2 ^ 64 - 1) (λ i. packed (widthStanding wanted (getD (now (percents .entry)) i 0)) i) count) × Short (now (percents .entry)) count ⌝ }
+    ensures { λ r. ⌜ Scanned (familyOfRows (now (rows .entry)) count) (widthRank request) (λ (f : Face). f .percent) r ⌝ }
 {
     let mut best = rank::NOWHERE;
     let mut i: usize = 0;
     while i < count {
-        best = rank::lower(best, width_rank(wanted, percents[i], i));
+        let next = width_rank(request.percent, rows[i][rows::PERCENT], i);
+        best = rank::lower(best, next);
         i += 1;
     }
     best
 }
 
-// Whether both hold.
-fn both(a: bool, b: bool) -> bool
-    ensures { λ r. ⌜ r ≡ (a && b) ⌝ }
-{
-    if a { b } else { false }
-}
-
 // Whether a face of the percent has a slant axis.
-fn slant_at(percents: &[u32; 64], slants: &[bool; 64], count: usize, percent: u32) -> bool
+fn slant_at(rows: &[Row; 64], count: usize, percent: u32) -> bool
     requires { ⌜ count ≤ 64 ⌝ }
-    ensures { λ r. ⌜ r ≡ some (λ i. eqb (getD (now (percents .entry)) i 0) percent && getD (now (slants .entry)) i false) count ⌝ }
+    ensures { λ r. ⌜ r ≡ some (λ i. slants percent (familyOfRows (now (rows .entry)) count .face i)) count ⌝ }
 {
     let mut i: usize = 0;
     while i < count {
-        if both(percents[i] == percent, slants[i]) {
+        let same = rows[i][rows::PERCENT] == percent;
+        if rows::both(same, rows[i][rows::MARKS] % 2 == 1) {
             return true;
         }
         i += 1;
@@ -85,94 +84,67 @@ fn slant_at(percents: &[u32; 64], slants: &[bool; 64], count: usize, percent: u3
 }
 
 // The least rank in style among the faces of the percent.
-fn style_stage(
-    percents: &[u32; 64],
-    styles: &[u32; 64],
-    count: usize,
-    percent: u32,
-    slant: bool,
-    request: Request,
-) -> u64
+fn style_stage(rows: &[Row; 64], count: usize, percent: u32, slant: bool, request: Request) -> u64
     requires { ⌜ count ≤ 64 ⌝ }
-    ensures { λ r. ⌜ (r ≡ leastBelow (2 ^ 64 - 1) (λ i. cond (eqb (getD (now (percents .entry)) i 0) percent) (packed (styleStanding (request .synthesis) slant (request .style) (getD (now (styles .entry)) i 0)) i) (2 ^ 64 - 1)) count) × Short (now (styles .entry)) count ⌝ }
+    ensures { λ r. ⌜ Scanned (familyOfRows (now (rows .entry)) count) (styleRank request percent slant) (λ (f : Face). f .style) r ⌝ }
 {
     let mut best = rank::NOWHERE;
     let mut i: usize = 0;
     while i < count {
-        best = rank::lower(
-            best,
-            style_rank(percents[i] == percent, slant, request, styles[i], i),
-        );
+        let width = rows[i][rows::PERCENT] == percent;
+        let next = style_rank(width, slant, request, rows[i][rows::STYLE], i);
+        best = rank::lower(best, next);
         i += 1;
     }
     best
 }
 
 // The least rank in weight among the faces of the percent and the style.
-fn weight_stage(
-    percents: &[u32; 64],
-    styles: &[u32; 64],
-    weights: &[u32; 64],
-    count: usize,
-    percent: u32,
-    style: u32,
-    wanted: u32,
-) -> u64
+fn weight_stage(rows: &[Row; 64], count: usize, percent: u32, style: u32, request: Request) -> u64
     requires { ⌜ count ≤ 64 ⌝ }
-    ensures { λ r. ⌜ (r ≡ leastBelow (2 ^ 64 - 1) (λ i. cond (eqb (getD (now (percents .entry)) i 0) percent && eqb (getD (now (styles .entry)) i 0) style) (packed (weightStanding wanted (getD (now (weights .entry)) i 0)) i) (2 ^ 64 - 1)) count) × Short (now (weights .entry)) count ⌝ }
+    ensures { λ r. ⌜ Scanned (familyOfRows (now (rows .entry)) count) (weightRank request percent style) (λ (f : Face). f .weight) r ⌝ }
 {
     let mut best = rank::NOWHERE;
     let mut i: usize = 0;
     while i < count {
-        best = rank::lower(
-            best,
-            weight_rank(
-                percents[i] == percent,
-                styles[i] == style,
-                wanted,
-                weights[i],
-                i,
-            ),
-        );
+        let width = rows[i][rows::PERCENT] == percent;
+        let bears = rows[i][rows::STYLE] == style;
+        let next = weight_rank(width, bears, request.weight, rows[i][rows::WEIGHT], i);
+        best = rank::lower(best, next);
         i += 1;
     }
     best
 }
 
-// The chosen place, or the count where no face is chosen. The faces are given by an array for each number.
-// Only our own crates call this and `equal_places`: a family over 64 faces is refused before.
-pub fn choose(
-    percents: &[u32; 64],
-    styles: &[u32; 64],
-    weights: &[u32; 64],
-    slants: &[bool; 64],
-    count: usize,
-    request: Request,
-) -> usize
+// The chosen place, or the count where no face is chosen.
+// Only our own crates call this, `default_place` and `equal_places`: a family over 64 faces is refused before.
+pub fn choose(rows: &[Row; 64], count: usize, request: Request) -> usize
     requires { ⌜ count ≤ 64 ⌝ }
-    ensures { λ r. ⌜ r ≡ choice (familyOfLists (now (percents .entry)) (now (styles .entry)) (now (weights .entry)) (now (slants .entry)) count) request ⌝ }
+    ensures { λ r. ⌜ r ≡ choice (familyOfRows (now (rows .entry)) count) request ⌝ }
 {
     if count < 2 {
         return 0;
     }
-    let first = rank::place_of(width_stage(percents, count, request.percent));
-    let percent = percents[first];
-    let slant = slant_at(percents, slants, count, percent);
-    let best = style_stage(percents, styles, count, percent, slant, request);
+    let first = rank::place_of(width_stage(rows, count, request));
+    let percent = rows[first][rows::PERCENT];
+    let slant = slant_at(rows, count, percent);
+    let best = style_stage(rows, count, percent, slant, request);
     if best == rank::NOWHERE {
         return count;
     }
     let bearer = rank::place_of(best);
-    let style = styles[bearer];
-    rank::place_of(weight_stage(
-        percents,
-        styles,
-        weights,
-        count,
-        percent,
-        style,
-        request.weight,
-    ))
+    let style = rows[bearer][rows::STYLE];
+    rank::place_of(weight_stage(rows, count, percent, style, request))
+}
+
+// The choice for default attributes with synthesis off, or 0.
+pub fn default_place(rows: &[Row; 64], count: usize) -> usize
+    requires { ⌜ count ≤ 64 ⌝ }
+    ensures { λ r. ⌜ r ≡ defaultPlace (familyOfRows (now (rows .entry)) count) ⌝ }
+{
+    let request = matching::request_of(Attributes::DEFAULT, false);
+    let place = choose(rows, count, request);
+    if place < count { place } else { 0 }
 }
 
 // Places of a family, in order. Those past the count are zero.
@@ -191,28 +163,20 @@ pub fn none() -> Places
     }
 }
 
-// The places whose ratio, style and weight equal the chosen face's.
-pub(crate) fn equal_places(
-    ratios: &[u32; 64],
-    styles: &[u32; 64],
-    weights: &[u32; 64],
-    count: usize,
-    chosen: usize,
-) -> Places
-    requires { ⌜ (count ≤ 64) × (chosen < 64) ⌝ }
-    ensures { λ r. ⌜ r ≡ laidOut (placesBelow (equalTo (now (ratios .entry)) (now (styles .entry)) (now (weights .entry)) chosen) count) ⌝ }
+// Every place whose exact ratio, style and weight equal the chosen face's, in place order.
+// The count, as any number not below it, stands for no chosen face, which has no equal place.
+pub fn equal_places(rows: &[Row; 64], count: usize, chosen: usize) -> Places
+    requires { ⌜ count ≤ 64 ⌝ }
+    ensures { λ r. ⌜ r ≡ laidOut (equalPlaces (familyOfRows (now (rows .entry)) count) chosen) ⌝ }
 {
-    let ratio = ratios[chosen];
-    let style = styles[chosen];
-    let weight = weights[chosen];
+    if count <= chosen {
+        return none();
+    }
     let mut places = [0usize; 64];
     let mut found: usize = 0;
     let mut i: usize = 0;
     while i < count {
-        if both(
-            ratios[i] == ratio,
-            both(styles[i] == style, weights[i] == weight),
-        ) {
+        if rows::same_face(rows, chosen, i) {
             places[found] = i;
             found += 1;
         }

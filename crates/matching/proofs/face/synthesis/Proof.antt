@@ -26,7 +26,13 @@ unvaried-requires c κs = search needs
 
 returns : tie.Need-returns
 unfolding synthesisOf attributesFrom
-returns c = c .unvaried .ensures ∙ ap (λ (r : ℕ). unvaried r false (pos 0)) (c .before .before .synthesis-refusal .ensures) ∙ sym (skipped _ (synthesisRefusal (c .before .before .before .args .font) (attributesFrom (c .before .before .before .args .width) (c .before .before .before .args .style) (c .before .before .before .args .weight))) (λ e. c .before .if1 .taken (c .before .before .synthesis-refusal .ensures ∙ e)))
+returns c =
+    let a = c .before .before .before .args in
+    let refused = c .before .before .synthesis-refusal .ensures in
+    let number = synthesisRefusal (a .font) (attributesFrom (a .width) (a .style) (a .weight)) in
+    c .unvaried .ensures
+    ∙ ap (λ (r : ℕ). unvaried r false (pos 0)) refused
+    ∙ sym (skipped _ number (λ e. c .before .if1 .taken (refused ∙ e)))
 
 varies-requires : tie.Need-varies-requires
 varies-requires c κs = search needs
@@ -36,7 +42,13 @@ synthesize-requires c κs = search needs
 
 returns-2 : tie.Need-returns-2
 unfolding synthesisOf attributesFrom
-returns-2 c = c .synthesize .ensures ∙ ap (λ (v : Varies). synthesized (c .before .before .before .before .before .args .font .attributes) v (attributesFrom (c .before .before .before .before .before .args .width) (c .before .before .before .before .before .args .style) (c .before .before .before .before .before .args .weight))) (c .before .varies .ensures) ∙ sym (taken _ (synthesisRefusal (c .before .before .before .before .before .args .font) (attributesFrom (c .before .before .before .before .before .args .width) (c .before .before .before .before .before .args .style) (c .before .before .before .before .before .args .weight))) (sym (c .before .before .before .before .synthesis-refusal .ensures) ∙ c .before .before .before .if1 .left))
+returns-2 c =
+    let a = c .before .before .before .before .before .args in
+    let request = attributesFrom (a .width) (a .style) (a .weight) in
+    let refused = c .before .before .before .before .synthesis-refusal .ensures in
+    c .synthesize .ensures
+    ∙ ap (λ (v : Varies). synthesized (a .font .attributes) v request) (c .before .varies .ensures)
+    ∙ sym (taken _ (synthesisRefusal (a .font) request) (sym refused ∙ c .before .before .before .if1 .left))
 
 pub synthesis-spec : {M : Type 1} → statement M
 synthesis-spec =

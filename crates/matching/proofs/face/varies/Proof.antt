@@ -46,20 +46,25 @@ has-axis-requires-3 c κs = search needs
 
 returns : tie.Need-returns
 unfolding variesOf hasAxis wdth wght ital slnt axisAt
-returns c = λ k. record { width = c .before .before .has-axis .ensures k; weight = has k; «weight_default» = value k; slant = c .before .has-axis2 .ensures k; italic = c .has-axis3 .ensures k }
-  where
-    has : ltb (c .before .before .before .before .before .axis-place .result) (c .before .before .before .before .axis-count .result) ≡ hasAxis (c .before .before .before .before .before .before .args .font) wght
-    has = λ l. ltb (c .before .before .before .before .before .axis-place .ensures l) (c .before .before .before .before .axis-count .ensures l)
-
-    value : c .before .before .before .if1 .weight-default ≡ cond (hasAxis (c .before .before .before .before .before .before .args .font) wght) (axisAt (c .before .before .before .before .before .before .args .font) (axisPlace (c .before .before .before .before .before .before .args .font) wght) .default) (single 0)
-    value =
-        ⊎-elim
-        (λ w.
-        w .2
-        ∙ ap (λ (i : ℕ). axisAt (c .before .before .before .before .before .before .args .font) i .default) (c .before .before .before .before .before .axis-place .ensures)
-        ∙ where-true (hasAxis (c .before .before .before .before .before .before .args .font) wght) _ (single 0) (sym has ∙ w .0 .taken))
-        (λ w. w .1 ∙ sym single-0 ∙ where-false (hasAxis (c .before .before .before .before .before .before .args .font) wght) (axisAt (c .before .before .before .before .before .before .args .font) (axisPlace (c .before .before .before .before .before .before .args .font) wght) .default) (single 0) (sym has ∙ w .0 .left))
-        (c .before .before .before .if1 .came)
+returns c =
+    let font = c .before .before .before .before .before .before .args .font in
+    let place = c .before .before .before .before .before .axis-place in
+    let count = c .before .before .before .before .axis-count in
+    let weight-default = axisAt font (axisPlace font wght) .default in
+    let has : ltb (place .result) (count .result) ≡ hasAxis font wght = λ l. ltb (place .ensures l) (count .ensures l) in
+    let value : c .before .before .before .if1 .weight-default ≡ cond (hasAxis font wght) weight-default (single 0) =
+    ⊎-elim
+    (λ w. w .2 ∙ ap (λ (i : ℕ). axisAt font i .default) (place .ensures) ∙ where-true (hasAxis font wght) _ (single 0) (sym has ∙ w .0 .taken))
+    (λ w. w .1 ∙ sym single-0 ∙ where-false (hasAxis font wght) weight-default (single 0) (sym has ∙ w .0 .left))
+    (c .before .before .before .if1 .came) in
+    λ k.
+    record {
+      width = c .before .before .has-axis .ensures k;
+      weight = has k;
+      «weight_default» = value k;
+      slant = c .before .has-axis2 .ensures k;
+      italic = c .has-axis3 .ensures k;
+    }
 
 pub varies-spec : {M : Type 1} → statement M
 varies-spec =

@@ -54,10 +54,12 @@ face-refusal-requires c κs = search needs
 returns-2 : tie.Need-returns-2 Inv-loop μ-loop
 unfolding facesRefusal refusedAs
 returns-2 c =
+    let a = c .before .before .before .before .before .before .args in
+    let l = c .before .before .before .before .loop in
     sym
     (rw (
-      le-ltb 64 (c .before .before .before .before .before .before .args .count) (c .before .before .before .before .before .if1 .left),
-      some-at (refused (c .before .before .before .before .before .before .args .t1) 19) (c .before .before .before .before .before .before .args .count) (c .before .before .before .before .loop .i) (omega arith)
+      le-ltb 64 (a .count) (c .before .before .before .before .before .if1 .left),
+      some-at (refused (a .t1) 19) (a .count) (l .i) (omega arith)
           (eq-eqb _ 19 (sym (c .before .face-refusal .ensures) ∙ c .if2 .taken)),
     ))
 
@@ -71,29 +73,31 @@ loop-less : tie.Need-loop-less Inv-loop μ-loop
 loop-less c = omega arith
 
 loop-again : tie.Need-loop-again Inv-loop μ-loop
-loop-again c = (
-  omega arith,
-  some-more (refused (c .before .before .before .before .before .before .before .args .t1) 19) (c .before .before .before .before .before .loop .i) (c .before .before .before .before .before .loop .inv .1)
-      (ne-eqb _ 19 (λ e. c .before .if2 .left (c .before .before .face-refusal .ensures ∙ e))),
-  c .either-refusal .ensures
-      ∙ (λ k. cond {A = ℕ} (eqb (c .before .before .face-refusal .ensures k) 26) 26 (c .before .before .before .before .before .loop .inv .2 k))
-      ∙ step (some (refused (c .before .before .before .before .before .before .before .args .t1) 26) (c .before .before .before .before .before .loop .i)) (refused (c .before .before .before .before .before .before .before .args .t1) 26 (c .before .before .before .before .before .loop .i))
-      ∙ sym (ap (λ (b : Bool). cond {A = ℕ} b 26 0) (some-next (refused (c .before .before .before .before .before .before .before .args .t1) 26) (c .before .before .before .before .before .loop .i))),
-)
+loop-again c =
+    let a = c .before .before .before .before .before .before .before .args in
+    let l = c .before .before .before .before .before .loop in (
+      omega arith,
+      some-more (refused (a .t1) 19) (l .i) (l .inv .1)
+          (ne-eqb _ 19 (λ e. c .before .if2 .left (c .before .before .face-refusal .ensures ∙ e))),
+      c .either-refusal .ensures
+          ∙ (λ k. cond {A = ℕ} (eqb (c .before .before .face-refusal .ensures k) 26) 26 (l .inv .2 k))
+          ∙ step (some (refused (a .t1) 26) (l .i)) (refused (a .t1) 26 (l .i))
+          ∙ sym (ap (λ (b : Bool). cond {A = ℕ} b 26 0) (some-next (refused (a .t1) 26) (l .i))),
+    )
 
 returns-3 : tie.Need-returns-3 Inv-loop μ-loop
 unfolding facesRefusal refusedAs
 returns-3 c =
-    c .before .loop .inv .2
-    ∙ ap (λ (i : ℕ). cond {A = ℕ} (some (refused (c .before .before .before .args .t1) 26) i) 26 0) end
+    let a = c .before .before .before .args in
+    let l = c .before .loop in
+    let end : l .i ≡ a .count = omega arith in
+    l .inv .2
+    ∙ ap (λ (i : ℕ). cond {A = ℕ} (some (refused (a .t1) 26) i) 26 0) end
     ∙ sym
     (rw (
-      le-ltb 64 (c .before .before .before .args .count) (c .before .before .if1 .left),
-      sym (ap (some (refused (c .before .before .before .args .t1) 19)) end) ∙ c .before .loop .inv .1,
+      le-ltb 64 (a .count) (c .before .before .if1 .left),
+      sym (ap (some (refused (a .t1) 19)) end) ∙ l .inv .1,
     ))
-  where
-    end : c .before .loop .i ≡ c .before .before .before .args .count
-    end = omega arith
 
 pub faces-refusal-spec : {M : Type 1} → statement M
 faces-refusal-spec =

@@ -10,18 +10,35 @@ faces-refusal-requires c κs = search needs
 
 returns : tie.Need-returns
 unfolding familyRefusal
-returns c = c .before .faces-refusal .ensures ∙ sym (rw (ne-eqb (facesRefusal (c .before .before .args .fonts) (c .before .before .args .count)) 0 (λ e. c .if1 .taken (c .before .faces-refusal .ensures ∙ e))))
+returns c =
+    let a = c .before .before .args in
+    let refused = c .before .faces-refusal .ensures in
+    refused ∙ sym (rw (ne-eqb (facesRefusal (a .fonts) (a .count)) 0 (λ e. c .if1 .taken (refused ∙ e))))
 
 accepted-requires : tie.Need-accepted-requires
 accepted-requires c κs = search needs
 
 returns-2 : tie.Need-returns-2
 unfolding familyRefusal
-returns-2 c = sym (rw (eq-eqb (facesRefusal (c .before .before .before .before .args .fonts) (c .before .before .before .before .args .count)) 0 (sym (c .before .before .before .faces-refusal .ensures) ∙ c .before .before .if1 .left), sym (c .before .accepted .ensures) ∙ c .if2 .taken))
+returns-2 c =
+    let a = c .before .before .before .before .args in
+    let refused = c .before .before .before .faces-refusal .ensures in
+    sym
+    (rw (
+      eq-eqb (facesRefusal (a .fonts) (a .count)) 0 (sym refused ∙ c .before .before .if1 .left),
+      sym (c .before .accepted .ensures) ∙ c .if2 .taken,
+    ))
 
 returns-3 : tie.Need-returns-3
 unfolding familyRefusal
-returns-3 c = sym (rw (eq-eqb (facesRefusal (c .before .before .before .before .args .fonts) (c .before .before .before .before .args .count)) 0 (sym (c .before .before .before .faces-refusal .ensures) ∙ c .before .before .if1 .left), sym (c .before .accepted .ensures) ∙ c .if2 .left))
+returns-3 c =
+    let a = c .before .before .before .before .args in
+    let refused = c .before .before .before .faces-refusal .ensures in
+    sym
+    (rw (
+      eq-eqb (facesRefusal (a .fonts) (a .count)) 0 (sym refused ∙ c .before .before .if1 .left),
+      sym (c .before .accepted .ensures) ∙ c .if2 .left,
+    ))
 
 pub family-refusal-spec : {M : Type 1} → statement M
 family-refusal-spec =

@@ -2,105 +2,83 @@
 use Prim.Native.Nat.{ℕ, _-_, _≤_}
 use mathlib.Core.Path.{_≡_, refl, sym, _∙_, ap}
 use mathlib.Core.Logic.{⊎-elim}
+use mathlib.Core.Bool.{Bool}
+use mathlib.Core.List.{List, []}
 use native.Mathlib.Omega.{arith}
-use mathlib.Core.Bool.{Bool, _&&_}
-use lib.Dec.{eqb}
 use lib.ListN.{length, getD}
-use borrow.Author.Needs.{needs}
+use borrow.Author.Tests.{lt-ltb, le-ltb}
 use denote.Ref.{now}
 use Rattle.matching.specs.Below.{placesBelow}
-use Rattle.matching.specs.Order.{equalTo, padded, laidOut}
+use Rattle.matching.specs.Order.{sameFace, equalPlaces, padded, laidOut}
+use Rattle.matching.specs.Rows.{faceOfRow}
 use Rattle.matching.proofs.Listed.{grown, kept}
+use borrow.Author.Needs.{needs}
 use Rattle.matching.proofs.stages.equal_places.Statement.{statement}
 use Rattle.matching.proofs.stages.equal_places.Tie as tie
 
+abbrev equal : List (List ℕ) → ℕ → ℕ → Bool
+equal rows chosen j = sameFace (faceOfRow (getD rows j [])) (faceOfRow (getD rows chosen []))
+
 abbrev Inv-loop : tie.InvT-loop
-Inv-loop ratios styles weights count chosen ratio style weight places₀ found₀ i₀ places found i =
+Inv-loop rows count chosen places₀ found₀ i₀ places found i =
     (i ≤ count)
-    × (places ≡ padded (placesBelow (equalTo ratios styles weights chosen) i))
-    × (found ≡ length (placesBelow (equalTo ratios styles weights chosen) i))
+    × (places ≡ padded (placesBelow (equal rows chosen) i))
+    × (found ≡ length (placesBelow (equal rows chosen) i))
     × (found ≤ i)
 
 abbrev μ-loop : tie.MeasureT-loop
-μ-loop ratios styles weights count chosen ratio style weight places₀ found₀ i₀ places found i = count - i
+μ-loop rows count chosen places₀ found₀ i₀ places found i = count - i
 
-mul-ratio : tie.Need-mul-ratio Inv-loop μ-loop
-mul-ratio c = omega arith
+none-requires : tie.Need-none-requires Inv-loop μ-loop
+none-requires c κs = search needs
 
-element-copy-out-ratio : tie.Need-element-copy-out-ratio Inv-loop μ-loop
-element-copy-out-ratio c = omega arith
-
-mul-style : tie.Need-mul-style Inv-loop μ-loop
-mul-style c = omega arith
-
-element-copy-out-style : tie.Need-element-copy-out-style Inv-loop μ-loop
-element-copy-out-style c = omega arith
-
-mul-weight : tie.Need-mul-weight Inv-loop μ-loop
-mul-weight c = omega arith
-
-element-copy-out-weight : tie.Need-element-copy-out-weight Inv-loop μ-loop
-element-copy-out-weight c = omega arith
+returns : tie.Need-returns Inv-loop μ-loop
+unfolding equalPlaces
+returns c =
+    let a = c .before .before .args in
+    c .none .ensures ∙ ap laidOut (sym (rw (le-ltb (a .chosen) (a .count) (c .before .if1 .taken))))
 
 loop-holds : tie.Need-loop-holds Inv-loop μ-loop
 unfolding placesBelow padded
 loop-holds c = (omega arith, refl, refl, omega arith)
 
-mul-both : tie.Need-mul-both Inv-loop μ-loop
-mul-both c = omega arith
-
-element-copy-out-both : tie.Need-element-copy-out-both Inv-loop μ-loop
-element-copy-out-both c = omega arith
-
-mul-both-2 : tie.Need-mul-both-2 Inv-loop μ-loop
-mul-both-2 c = omega arith
-
-element-copy-out-both-2 : tie.Need-element-copy-out-both-2 Inv-loop μ-loop
-element-copy-out-both-2 c = omega arith
-
-mul-both-3 : tie.Need-mul-both-3 Inv-loop μ-loop
-mul-both-3 c = omega arith
-
-element-copy-out-both-3 : tie.Need-element-copy-out-both-3 Inv-loop μ-loop
-element-copy-out-both-3 c = omega arith
-
-both-requires : tie.Need-both-requires Inv-loop μ-loop
-both-requires c κs = search needs
-
-both-requires-2 : tie.Need-both-requires-2 Inv-loop μ-loop
-both-requires-2 c κs = search needs
+same-face-requires : tie.Need-same-face-requires Inv-loop μ-loop
+same-face-requires c κs = search needs
 
 mul-places : tie.Need-mul-places Inv-loop μ-loop
-mul-places c = omega arith
+mul-places c = search needs
 
 array-write-places : tie.Need-array-write-places Inv-loop μ-loop
-array-write-places c = omega arith
+array-write-places c = search needs
 
 add-found : tie.Need-add-found Inv-loop μ-loop
-add-found c = omega arith
+add-found c = search needs
 
 add-i : tie.Need-add-i Inv-loop μ-loop
-add-i c = omega arith
+add-i c = search needs
 
 loop-less : tie.Need-loop-less Inv-loop μ-loop
-loop-less c = omega arith
+loop-less c = search needs
 
 loop-again : tie.Need-loop-again Inv-loop μ-loop
-unfolding equalTo
 loop-again c =
+    let l = c .before .before .before .loop in
+    let a = c .before .before .before .before .before .args in
+    let p = equal (now (a .rows)) (a .chosen) in
+    let same = c .before .same-face .ensures in
     ⊎-elim
-    (λ w. let r = grown (equalTo (now (c .before .before .before .before .before .before .before .before .before .before .before .args .ratios)) (now (c .before .before .before .before .before .before .before .before .before .before .before .args .styles)) (now (c .before .before .before .before .before .before .before .before .before .before .before .args .weights)) (c .before .before .before .before .before .before .before .before .before .before .before .args .chosen)) (c .before .before .before .before .before .before .before .loop .i) (c .before .before .before .before .before .before .before .loop .places) (c .before .before .before .before .before .before .before .loop .found) (c .before .before .before .before .before .before .before .loop .inv .1) (c .before .before .before .before .before .before .before .loop .inv .2) (c .before .before .before .before .before .before .before .loop .inv .3) (c .if1 .places) (c .if1 .found) (omega arith) (sym same ∙ w .0 .taken) (w .1) (w .2) in (omega arith, r .0, r .1, r .2))
-    (λ w. let r = kept (equalTo (now (c .before .before .before .before .before .before .before .before .before .before .before .args .ratios)) (now (c .before .before .before .before .before .before .before .before .before .before .before .args .styles)) (now (c .before .before .before .before .before .before .before .before .before .before .before .args .weights)) (c .before .before .before .before .before .before .before .before .before .before .before .args .chosen)) (c .before .before .before .before .before .before .before .loop .i) (c .before .before .before .before .before .before .before .loop .places) (c .before .before .before .before .before .before .before .loop .found) (c .before .before .before .before .before .before .before .loop .inv .1) (c .before .before .before .before .before .before .before .loop .inv .2) (c .before .before .before .before .before .before .before .loop .inv .3) (c .if1 .places) (c .if1 .found) (sym same ∙ w .0 .left) (w .1) (w .2) in (omega arith, r .0, r .1, r .2))
-    (c .if1 .came)
-  where
-    same : c .before .both2 .result ≡ equalTo (now (c .before .before .before .before .before .before .before .before .before .before .before .args .ratios)) (now (c .before .before .before .before .before .before .before .before .before .before .before .args .styles)) (now (c .before .before .before .before .before .before .before .before .before .before .before .args .weights)) (c .before .before .before .before .before .before .before .before .before .before .before .args .chosen) (c .before .before .before .before .before .before .before .loop .i)
-    same = c .before .both2 .ensures ∙ ap (λ (b : Bool). eqb (getD (now (c .before .before .before .before .before .before .before .before .before .before .before .args .ratios)) (c .before .before .before .before .before .before .before .loop .i) 0) (getD (now (c .before .before .before .before .before .before .before .before .before .before .before .args .ratios)) (c .before .before .before .before .before .before .before .before .before .before .before .args .chosen) 0) && b) (c .before .before .both .ensures)
+    (λ w. let r = grown p (l .i) (l .places) (l .found) (l .inv .1) (l .inv .2) (l .inv .3) (c .if2 .places) (c .if2 .found) (omega arith) (sym same ∙ w .0 .taken) (w .1) (w .2) in (omega arith, r .0, r .1, r .2))
+    (λ w. let r = kept p (l .i) (l .places) (l .found) (l .inv .1) (l .inv .2) (l .inv .3) (c .if2 .places) (c .if2 .found) (sym same ∙ w .0 .left) (w .1) (w .2) in (omega arith, r .0, r .1, r .2))
+    (c .if2 .came)
 
-returns : tie.Need-returns Inv-loop μ-loop
-unfolding laidOut
-returns c =
+returns-2 : tie.Need-returns-2 Inv-loop μ-loop
+unfolding equalPlaces laidOut
+returns-2 c =
+    let a = c .before .before .before .args in
+    let end : c .before .loop .i ≡ a .count = omega arith in
     (λ k. record { places = c .before .loop .inv .1 k; count = c .before .loop .inv .2 k })
-    ∙ ap (λ (n : ℕ). laidOut (placesBelow (equalTo (now (c .before .before .before .before .before .args .ratios)) (now (c .before .before .before .before .before .args .styles)) (now (c .before .before .before .before .before .args .weights)) (c .before .before .before .before .before .args .chosen)) n)) (omega arith)
+    ∙ ap (λ (n : ℕ). laidOut (placesBelow (equal (now (a .rows)) (a .chosen)) n)) end
+    ∙ ap laidOut (sym (rw (lt-ltb (a .chosen) (a .count) (c .before .before .if1 .left))))
 
 pub equal-places-spec : {M : Type 1} → statement M
 equal-places-spec =
@@ -108,25 +86,14 @@ equal-places-spec =
     (tie.spec
     Inv-loop
     μ-loop
-    mul-ratio
-    element-copy-out-ratio
-    mul-style
-    element-copy-out-style
-    mul-weight
-    element-copy-out-weight
+    none-requires
+    returns
     loop-holds
-    mul-both
-    element-copy-out-both
-    mul-both-2
-    element-copy-out-both-2
-    mul-both-3
-    element-copy-out-both-3
-    both-requires
-    both-requires-2
+    same-face-requires
     mul-places
     array-write-places
     add-found
     add-i
     loop-less
     loop-again
-    returns)
+    returns-2)

@@ -1,74 +1,58 @@
--- The invariant: `best` is the least rank of the places passed, and their styles are of 32 bits. The turn is the law of the scans, `least-more`.
-use Prim.Native.Nat.{ℕ, _-_, _^_, _≤_}
-use mathlib.Core.Path.{_≡_, refl, _∙_, ap}
-use mathlib.Core.Bool.{Bool, cond}
-use mathlib.Core.List.{List}
+-- The invariant: `best` is the least rank of the places passed, and their styles are of 32 bits. A turn is `scan-more` of proofs/Scans.antt.
+use Prim.Native.Nat.{_-_, _≤_}
 use native.Mathlib.Omega.{arith}
-use lib.Dec.{eqb}
-use lib.ListN.{getD}
+use Rattle.matching.specs.Order.{Face}
+use Rattle.matching.specs.Packed.{styleRank, Scanned}
+use Rattle.matching.specs.Rows.{familyOfRows}
+use Rattle.matching.proofs.Scans.{scan-none, scan-more, scan-all}
 use borrow.Author.Needs.{needs}
-use borrow.Author.Count.{below-more}
-use denote.Ref.{now}
-use Rattle.font.specs.First.{leastBelow}
-use Rattle.matching.specs.declared.order.Request.{Request}
-use Rattle.matching.specs.Packed.{packed, Short}
-use Rattle.matching.specs.Order.{styleStanding}
-use Rattle.matching.proofs.Below.{least-more}
 use Rattle.matching.proofs.stages.style_stage.Statement.{statement}
 use Rattle.matching.proofs.stages.style_stage.Tie as tie
 
-abbrev ranks : List ℕ → List ℕ → ℕ → Bool → Request → ℕ → ℕ
-ranks percents styles percent slant request j =
-    cond (eqb (getD percents j 0) percent)
-    (packed (styleStanding (request .synthesis) slant (request .style) (getD styles j 0)) j)
-    (2 ^ 64 - 1)
-
 abbrev Inv-loop : tie.InvT-loop
-Inv-loop percents styles count percent slant request best₀ i₀ best i = (i ≤ count) × (best ≡ leastBelow (2 ^ 64 - 1) (ranks percents styles percent slant request) i) × Short styles i
+Inv-loop rows count percent slant request best₀ i₀ best i = (i ≤ count) × Scanned (familyOfRows rows i) (styleRank request percent slant) (λ (f : Face). f .style) best
 
 abbrev μ-loop : tie.MeasureT-loop
-μ-loop percents styles count percent slant request best₀ i₀ best i = count - i
+μ-loop rows count percent slant request best₀ i₀ best i = count - i
 
 loop-holds : tie.Need-loop-holds Inv-loop μ-loop
-unfolding leastBelow
-loop-holds c = (omega arith, refl, λ j h. absurd (omega arith))
+loop-holds c = (omega arith, scan-none)
+
+mul-width : tie.Need-mul-width Inv-loop μ-loop
+mul-width c = search needs
+
+index-1-width : tie.Need-index-1-width Inv-loop μ-loop
+index-1-width c = search needs
+
+index-2-width : tie.Need-index-2-width Inv-loop μ-loop
+index-2-width c = search needs
 
 mul-style-rank : tie.Need-mul-style-rank Inv-loop μ-loop
 mul-style-rank c = search needs
 
-element-copy-out-style-rank : tie.Need-element-copy-out-style-rank Inv-loop μ-loop
-element-copy-out-style-rank c = omega arith
+index-1-style-rank : tie.Need-index-1-style-rank Inv-loop μ-loop
+index-1-style-rank c = search needs
 
-mul-style-rank-2 : tie.Need-mul-style-rank-2 Inv-loop μ-loop
-mul-style-rank-2 c = search needs
-
-element-copy-out-style-rank-2 : tie.Need-element-copy-out-style-rank-2 Inv-loop μ-loop
-element-copy-out-style-rank-2 c = omega arith
+index-2-style-rank : tie.Need-index-2-style-rank Inv-loop μ-loop
+index-2-style-rank c = search needs
 
 style-rank-requires : tie.Need-style-rank-requires Inv-loop μ-loop
-style-rank-requires c κs = omega arith
+style-rank-requires c κs = search needs
 
 lower-requires : tie.Need-lower-requires Inv-loop μ-loop
 lower-requires c κs = search needs
 
 add-i : tie.Need-add-i Inv-loop μ-loop
-add-i c = omega arith
+add-i c = search needs
 
 loop-less : tie.Need-loop-less Inv-loop μ-loop
-loop-less c = omega arith
+loop-less c = search needs
 
 loop-again : tie.Need-loop-again Inv-loop μ-loop
-loop-again c = (
-  omega arith,
-  least-more (2 ^ 64 - 1) (ranks (now (c .before .before .before .before .before .before .args .percents)) (now (c .before .before .before .before .before .before .args .styles)) (c .before .before .before .before .before .before .args .percent) (c .before .before .before .before .before .before .args .slant) (c .before .before .before .before .before .before .args .request)) (c .before .before .before .before .before .loop .i) (c .before .before .before .before .before .loop .inv .1) (c .before .style-rank .ensures .0) (c .lower .ensures),
-  below-more _ _ (c .before .before .before .before .before .loop .inv .2) (c .before .style-rank .ensures .1),
-)
+loop-again c = (omega arith, scan-more (c .before .before .before .before .before .loop .inv .1) (c .before .style-rank .ensures) (c .lower .ensures))
 
 returns : tie.Need-returns Inv-loop μ-loop
-returns c = (
-  c .before .loop .inv .1 ∙ ap (leastBelow (2 ^ 64 - 1) (ranks (now (c .before .before .args .percents)) (now (c .before .before .args .styles)) (c .before .before .args .percent) (c .before .before .args .slant) (c .before .before .args .request))) (omega arith),
-  λ j h. c .before .loop .inv .2 j (omega arith),
-)
+returns c = scan-all (c .before .loop .inv .1) (omega arith)
 
 pub style-stage-spec : {M : Type 1} → statement M
 style-stage-spec =
@@ -77,10 +61,12 @@ style-stage-spec =
     Inv-loop
     μ-loop
     loop-holds
+    mul-width
+    index-1-width
+    index-2-width
     mul-style-rank
-    element-copy-out-style-rank
-    mul-style-rank-2
-    element-copy-out-style-rank-2
+    index-1-style-rank
+    index-2-style-rank
     style-rank-requires
     lower-requires
     add-i

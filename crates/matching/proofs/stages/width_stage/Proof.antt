@@ -1,63 +1,49 @@
--- The invariant: `best` is the least rank of the places passed, and their percents are of 32 bits. The turn is the law of the scans, `least-more`.
-use Prim.Native.Nat.{ℕ, _-_, _^_, _≤_}
-use mathlib.Core.Path.{_≡_, refl, _∙_, ap}
-use mathlib.Core.List.{List}
+-- The invariant: `best` is the least rank of the places passed, and their percents are of 32 bits. A turn is `scan-more` of proofs/Scans.antt.
+use Prim.Native.Nat.{_-_, _≤_}
 use native.Mathlib.Omega.{arith}
-use lib.ListN.{getD}
+use Rattle.matching.specs.Order.{Face}
+use Rattle.matching.specs.Packed.{widthRank, Scanned}
+use Rattle.matching.specs.Rows.{familyOfRows}
+use Rattle.matching.proofs.Scans.{scan-none, scan-more, scan-all}
 use borrow.Author.Needs.{needs}
-use borrow.Author.Count.{below-more}
-use denote.Ref.{now}
-use Rattle.font.specs.First.{leastBelow}
-use Rattle.matching.specs.Packed.{packed, Short}
-use Rattle.matching.specs.Order.{widthStanding}
-use Rattle.matching.proofs.Below.{least-more}
 use Rattle.matching.proofs.stages.width_stage.Statement.{statement}
 use Rattle.matching.proofs.stages.width_stage.Tie as tie
 
-abbrev ranks : List ℕ → ℕ → ℕ → ℕ
-ranks percents wanted j =
-    packed (widthStanding wanted (getD percents j 0)) j
-
 abbrev Inv-loop : tie.InvT-loop
-Inv-loop percents count wanted best₀ i₀ best i = (i ≤ count) × (best ≡ leastBelow (2 ^ 64 - 1) (ranks percents wanted) i) × Short percents i
+Inv-loop rows count request best₀ i₀ best i = (i ≤ count) × Scanned (familyOfRows rows i) (widthRank request) (λ (f : Face). f .percent) best
 
 abbrev μ-loop : tie.MeasureT-loop
-μ-loop percents count wanted best₀ i₀ best i = count - i
+μ-loop rows count request best₀ i₀ best i = count - i
 
 loop-holds : tie.Need-loop-holds Inv-loop μ-loop
-unfolding leastBelow
-loop-holds c = (omega arith, refl, λ j h. absurd (omega arith))
+loop-holds c = (omega arith, scan-none)
 
 mul-width-rank : tie.Need-mul-width-rank Inv-loop μ-loop
 mul-width-rank c = search needs
 
-element-copy-out-width-rank : tie.Need-element-copy-out-width-rank Inv-loop μ-loop
-element-copy-out-width-rank c = omega arith
+index-1-width-rank : tie.Need-index-1-width-rank Inv-loop μ-loop
+index-1-width-rank c = search needs
+
+index-2-width-rank : tie.Need-index-2-width-rank Inv-loop μ-loop
+index-2-width-rank c = search needs
 
 width-rank-requires : tie.Need-width-rank-requires Inv-loop μ-loop
-width-rank-requires c κs = omega arith
+width-rank-requires c κs = search needs
 
 lower-requires : tie.Need-lower-requires Inv-loop μ-loop
 lower-requires c κs = search needs
 
 add-i : tie.Need-add-i Inv-loop μ-loop
-add-i c = omega arith
+add-i c = search needs
 
 loop-less : tie.Need-loop-less Inv-loop μ-loop
-loop-less c = omega arith
+loop-less c = search needs
 
 loop-again : tie.Need-loop-again Inv-loop μ-loop
-loop-again c = (
-  omega arith,
-  least-more (2 ^ 64 - 1) (ranks (now (c .before .before .before .before .before .args .percents)) (c .before .before .before .before .before .args .wanted)) (c .before .before .before .before .loop .i) (c .before .before .before .before .loop .inv .1) (c .before .width-rank .ensures .0) (c .lower .ensures),
-  below-more _ _ (c .before .before .before .before .loop .inv .2) (c .before .width-rank .ensures .1),
-)
+loop-again c = (omega arith, scan-more (c .before .before .before .before .loop .inv .1) (c .before .width-rank .ensures) (c .lower .ensures))
 
 returns : tie.Need-returns Inv-loop μ-loop
-returns c = (
-  c .before .loop .inv .1 ∙ ap (leastBelow (2 ^ 64 - 1) (ranks (now (c .before .before .args .percents)) (c .before .before .args .wanted))) (omega arith),
-  λ j h. c .before .loop .inv .2 j (omega arith),
-)
+returns c = scan-all (c .before .loop .inv .1) (omega arith)
 
 pub width-stage-spec : {M : Type 1} → statement M
 width-stage-spec =
@@ -67,7 +53,8 @@ width-stage-spec =
     μ-loop
     loop-holds
     mul-width-rank
-    element-copy-out-width-rank
+    index-1-width-rank
+    index-2-width-rank
     width-rank-requires
     lower-requires
     add-i

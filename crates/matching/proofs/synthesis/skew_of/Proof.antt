@@ -43,7 +43,11 @@ returns-2 c = toZ-ofZ w8 (c .italic-skew .result) (record { sfits = c .italic-sk
 
 returns-3 : tie.Need-returns-3
 unfolding skewOf
-returns-3 c = toZ-ofZ w8 (c .oblique-skew .result) (record { sfits = c .oblique-skew .ok }) ∙ c .oblique-skew .ensures ∙ ap (obliqueSkew (c .before .before .before .before .before .before .before .args .varies)) (c .before .degrees .ensures) ∙ sym (λ k. skewOf (c .before .before .before .before .before .before .before .args .varies) (c .before .before .before .before .before .enum-told .given .1 k) (c .before .before .before .wanted .given .1 k))
+returns-3 c =
+    let varies = c .before .before .before .before .before .before .before .args .varies in
+    let own = c .before .before .before .before .before .enum-told .given .1 in
+    toZ-ofZ w8 (c .oblique-skew .result) (record { sfits = c .oblique-skew .ok }) ∙ c .oblique-skew .ensures ∙ ap (obliqueSkew varies) (c .before .degrees .ensures)
+    ∙ sym (λ k. skewOf varies (own k) (c .before .before .before .wanted .given .1 k))
 
 returns-4 : tie.Need-returns-4
 unfolding skewOf

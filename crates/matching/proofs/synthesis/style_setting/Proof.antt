@@ -41,7 +41,11 @@ returns-2 c = c .italic-setting .ensures ∙ sym (λ k. styleSetting (c .before 
 
 returns-3 : tie.Need-returns-3
 unfolding styleSetting
-returns-3 c = c .oblique-setting .ensures ∙ ap (obliqueSetting (c .before .before .before .before .before .before .before .args .varies)) (c .before .degrees .ensures) ∙ sym (λ k. styleSetting (c .before .before .before .before .before .before .before .args .varies) (c .before .before .before .before .before .enum-told .given .1 k) (c .before .before .before .wanted .given .1 k))
+returns-3 c =
+    let varies = c .before .before .before .before .before .before .before .args .varies in
+    let own = c .before .before .before .before .before .enum-told .given .1 in
+    c .oblique-setting .ensures ∙ ap (obliqueSetting varies) (c .before .degrees .ensures)
+    ∙ sym (λ k. styleSetting varies (own k) (c .before .before .before .wanted .given .1 k))
 
 returns-4 : tie.Need-returns-4
 unfolding styleSetting

@@ -37,6 +37,8 @@ added-requires-3 c κs = search needs
 returns : tie.Need-returns
 unfolding synthesized
 returns c =
+    let lean = c .before .before .before .before .before .before .before .skew-of in
+    let skew = toZ-ofZ w8 (lean .result) (record { sfits = lean .ok }) ∙ lean .ensures in
     c .added3 .ensures
     ∙ (λ k.
     added
@@ -49,7 +51,7 @@ returns c =
     ((c .before .before .before .before .before .before .unvaried .ensures
     ∙ (λ n.
     unvaried 0 (c .before .before .before .before .before .before .before .before .emboldens .ensures n)
-    ((toZ-ofZ w8 (c .before .before .before .before .before .before .before .skew-of .result) (record { sfits = c .before .before .before .before .before .before .before .skew-of .ok }) ∙ c .before .before .before .before .before .before .before .skew-of .ensures) n))) m)
+    (skew n))) m)
     (c .before .before .before .before .before .width-setting .ensures m))) l)
     (c .before .before .before .weight-setting .ensures l))) k)
     (c .before .style-setting .ensures k))

@@ -26,24 +26,48 @@ array-copy-out-font c = search needs
 
 returns : tie.Need-returns
 unfolding fetched fetchRefusal
-returns c = ap (given (c .before .before .before .before .args .self) (c .before .before .before .before .args .place)) (sym (rw (eq-eqb (facesRefusal (c .before .before .before .before .args .self .fonts) (c .before .before .before .before .args .self .count)) 19 (sym (c .before .before .faces-refusal .ensures) ∙ c .before .if1 .taken))))
+returns c =
+    let a = c .before .before .before .before .args in
+    let refused = c .before .before .faces-refusal .ensures in
+    ap (given (a .self) (a .place))
+    (sym (rw (eq-eqb (facesRefusal (a .self .fonts) (a .self .count)) 19 (sym refused ∙ c .before .if1 .taken))))
 
 mul-font : tie.Need-mul-font
-mul-font c = omega (arith, faces-few (c .before .before .before .before .args .self .fonts) (c .before .before .before .before .args .self .count) (λ e. c .before .if1 .left (c .before .before .faces-refusal .ensures ∙ e)))
+mul-font c =
+    let a = c .before .before .before .before .args in
+    omega (arith, faces-few (a .self .fonts) (a .self .count) (λ e. c .before .if1 .left (c .before .before .faces-refusal .ensures ∙ e)))
 
 array-copy-out-font-2 : tie.Need-array-copy-out-font-2
-array-copy-out-font-2 c = omega (arith, faces-few (c .before .before .before .before .args .self .fonts) (c .before .before .before .before .args .self .count) (λ e. c .before .if1 .left (c .before .before .faces-refusal .ensures ∙ e)))
+array-copy-out-font-2 c =
+    let a = c .before .before .before .before .args in
+    omega (arith, faces-few (a .self .fonts) (a .self .count) (λ e. c .before .if1 .left (c .before .before .faces-refusal .ensures ∙ e)))
 
 returns-2 : tie.Need-returns-2
 unfolding fetched fetchRefusal
-returns-2 c = ap (given (c .before .before .before .before .before .args .self) (c .before .before .before .before .before .args .place)) (sym (rw (ne-eqb (facesRefusal (c .before .before .before .before .before .args .self .fonts) (c .before .before .before .before .before .args .self .count)) 19 (λ e. c .before .before .if1 .left (c .before .before .before .faces-refusal .ensures ∙ e)), lt-ltb (c .before .before .before .before .before .args .place) (c .before .before .before .before .before .args .self .count) (c .before .if2 .taken))))
+returns-2 c =
+    let a = c .before .before .before .before .before .args in
+    let refused = c .before .before .before .faces-refusal .ensures in
+    ap (given (a .self) (a .place))
+    (sym
+    (rw (
+      ne-eqb (facesRefusal (a .self .fonts) (a .self .count)) 19 (λ e. c .before .before .if1 .left (refused ∙ e)),
+      lt-ltb (a .place) (a .self .count) (c .before .if2 .taken),
+    )))
 
 array-copy-out-font-3 : tie.Need-array-copy-out-font-3
 array-copy-out-font-3 c = search needs
 
 returns-3 : tie.Need-returns-3
 unfolding fetched fetchRefusal
-returns-3 c = ap (given (c .before .before .before .before .before .args .self) (c .before .before .before .before .before .args .place)) (sym (rw (ne-eqb (facesRefusal (c .before .before .before .before .before .args .self .fonts) (c .before .before .before .before .before .args .self .count)) 19 (λ e. c .before .before .if1 .left (c .before .before .before .faces-refusal .ensures ∙ e)), le-ltb (c .before .before .before .before .before .args .place) (c .before .before .before .before .before .args .self .count) (c .before .if2 .left))))
+returns-3 c =
+    let a = c .before .before .before .before .before .args in
+    let refused = c .before .before .before .faces-refusal .ensures in
+    ap (given (a .self) (a .place))
+    (sym
+    (rw (
+      ne-eqb (facesRefusal (a .self .fonts) (a .self .count)) 19 (λ e. c .before .before .if1 .left (refused ∙ e)),
+      le-ltb (a .place) (a .self .count) (c .before .if2 .left),
+    )))
 
 pub match-font-spec : {M : Type 1} → statement M
 match-font-spec =
