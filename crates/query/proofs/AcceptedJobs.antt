@@ -1,58 +1,43 @@
 -- A byte string is accepted exactly when it is the layout of a job within the limits, and it is read as that job, to its end.
 use Prim.Native.Nat.{ℕ, _≤_}
 use mathlib.Core.Path.{_≡_, refl, sym, ap, _∙_, subst}
-use mathlib.Core.Bool.{Bool, true, false, cond}
 use mathlib.Core.List.{List, _++_, append-nil}
 use mathlib.Core.Logic.{_↔_}
 use native.Mathlib.Omega.{arith}
 use lib.ListN.{length, drop-of-length-le}
 use lib.Seq.{drop-length}
-use lib.Dec.{leb, ltb}
-use borrow.Author.Tests.{le-leb, le-ltb, leb-true, ltb-false}
+use borrow.Author.Tests.{le-leb, le-ltb}
 use Rattle.query.specs.declared.job.Checked.{Checked}
+use Rattle.query.specs.Sizes.{mostBytes, mostFaces, mostOverrides, mostFamilies, mostRequests}
 use Rattle.query.specs.Reader.{Refusal, overlong, pastEnd, overLimit, notHeld, badDirectory, noCharmap, manyAxes, noFace, unknown, badNumber, bytesLeft, number, Got, refused, got}
 use Rattle.query.specs.Fields.{counted}
 use Rattle.query.specs.Entries.{readFace, readOverride, readFamily, readRequest}
-use Rattle.query.specs.Job.{Job, atEnd, readSections, readJob, answer, checkJob}
+use Rattle.query.specs.Job.{Job, atEnd, readSections, readJob, answer, checkJob, jobOf}
 use Rattle.query.specs.Layout.{Bytes, after16, layoutFace, layoutOverride, layoutFamily, layoutRequest, layout, Every, FaceFits, OverrideFits, FamilyFits, RequestFits, JobFits}
-use Rattle.query.proofs.Ends.{number-nonzero, then-got}
+use Rattle.query.proofs.Checks.{accepted, job-read, sections-read}
 use Rattle.query.proofs.Stands.{Stands, join, split}
 use Rattle.query.proofs.Exact.{Stood, Exact}
-use Rattle.query.proofs.ExactLists.{then-is, stood-as, exact-counted}
+use Rattle.query.proofs.ExactLists.{then-is, exact-counted}
 use Rattle.query.proofs.ExactEntries.{exact-face, exact-override, exact-family, exact-request}
 
 -- the limits but the job's length
 record SectionsFit (j : Job) : Type 0 where
-  faces : (length (j .faces) ≤ 256) × Every FaceFits (j .faces)
-  overrides : (length (j .overrides) ≤ 256) × Every (OverrideFits (length (j .faces))) (j .overrides)
-  families : (length (j .families) ≤ 64) × Every (FamilyFits (length (j .faces))) (j .families)
-  requests : (length (j .requests) ≤ 256) × Every RequestFits (j .requests)
+  faces : (length (j .faces) ≤ mostFaces) × Every FaceFits (j .faces)
+  overrides : (length (j .overrides) ≤ mostOverrides) × Every (OverrideFits (length (j .faces))) (j .overrides)
+  families : (length (j .families) ≤ mostFamilies) × Every (FamilyFits (length (j .faces))) (j .families)
+  requests : (length (j .requests) ≤ mostRequests) × Every RequestFits (j .requests)
 
-exact-faces : Exact (counted 256 readFace) (after16 layoutFace) (λ xs. (length xs ≤ 256) × Every FaceFits xs)
-exact-faces = exact-counted readFace layoutFace FaceFits exact-face 256
+exact-faces : Exact (counted mostFaces readFace) (after16 layoutFace) (λ xs. (length xs ≤ mostFaces) × Every FaceFits xs)
+exact-faces = exact-counted readFace layoutFace FaceFits exact-face mostFaces
 
-exact-overrides : (n : ℕ) → Exact (counted 256 (readOverride n)) (after16 layoutOverride) (λ xs. (length xs ≤ 256) × Every (OverrideFits n) xs)
-exact-overrides n = exact-counted (readOverride n) layoutOverride (OverrideFits n) (exact-override n) 256
+exact-overrides : (n : ℕ) → Exact (counted mostOverrides (readOverride n)) (after16 layoutOverride) (λ xs. (length xs ≤ mostOverrides) × Every (OverrideFits n) xs)
+exact-overrides n = exact-counted (readOverride n) layoutOverride (OverrideFits n) (exact-override n) mostOverrides
 
-exact-families : (n : ℕ) → Exact (counted 64 (readFamily n)) (after16 layoutFamily) (λ xs. (length xs ≤ 64) × Every (FamilyFits n) xs)
-exact-families n = exact-counted (readFamily n) layoutFamily (FamilyFits n) (exact-family n) 64
+exact-families : (n : ℕ) → Exact (counted mostFamilies (readFamily n)) (after16 layoutFamily) (λ xs. (length xs ≤ mostFamilies) × Every (FamilyFits n) xs)
+exact-families n = exact-counted (readFamily n) layoutFamily (FamilyFits n) (exact-family n) mostFamilies
 
-exact-requests : Exact (counted 256 readRequest) (after16 layoutRequest) (λ xs. (length xs ≤ 256) × Every RequestFits xs)
-exact-requests = exact-counted readRequest layoutRequest RequestFits exact-request 256
-
--- no byte is left
-pub record Over (j k : Job) (s : List ℕ) (p q : ℕ) : Type 0 where
-  pub is : j ≡ k
-  pub ends : p ≡ q
-  pub last : length s ≤ p
-
-pub at-end-got : (j k : Job) (s : List ℕ) (p q : ℕ) → atEnd j s p ≡ got k q → Over j k s p q
-unfolding atEnd
-at-end-got j k s p q = go (ltb p (length s)) refl
-  where
-    go : (b : Bool) → ltb p (length s) ≡ b → cond b (refused bytesLeft p) (got j p) ≡ got k q → Over j k s p q
-    go true t e = absurd (let z : _≡_ {A = ℕ} 0 1 = cc in omega arith)
-    go false t e = record { is = cc; ends = cc; last = ltb-false p (length s) t }
+exact-requests : Exact (counted mostRequests readRequest) (after16 layoutRequest) (λ xs. (length xs ≤ mostRequests) × Every RequestFits xs)
+exact-requests = exact-counted readRequest layoutRequest RequestFits exact-request mostRequests
 
 at-end-is : (j : Job) (s : List ℕ) (p : ℕ) → length s ≤ p → atEnd j s p ≡ got j p
 unfolding atEnd
@@ -63,25 +48,19 @@ record Whole (s : List ℕ) (j : Job) (q : ℕ) : Type 0 where
   last : length s ≤ q
 
 sections-sound : (s : List ℕ) → Bytes s → (j : Job) (q : ℕ) → readSections s 0 ≡ got j q → Whole s j q
-unfolding readSections layout
+unfolding layout
 sections-sound s B j q h =
-    let t = then-got (counted 256 readFace) _ s 0 j q h in
-    let u = then-got (counted 256 (readOverride (length (t .0)))) _ s (t .1) j q (t .3) in
-    let v = then-got (counted 64 (readFamily (length (t .0)))) _ s (u .1) j q (u .3) in
-    let x = then-got (counted 256 readRequest) _ s (v .1) j q (v .3) in
-    let d = at-end-got (record { faces = t .0; overrides = u .0; families = v .0; requests = x .0 }) j s (x .1) q (x .3) in
-    let f = exact-faces .sound s B 0 (t .0) (t .1) (t .2) in
-    let g = exact-overrides (length (t .0)) .sound s B (t .1) (u .0) (u .1) (u .2) in
-    let k = exact-families (length (t .0)) .sound s B (u .1) (v .0) (v .1) (v .2) in
-    let y = exact-requests .sound s B (v .1) (x .0) (x .1) (x .2) in
+    let r = sections-read s j q h in
+    let f = exact-faces .sound s B 0 (j .faces) (r .second) (r .faces) in
+    let g = exact-overrides (length (j .faces)) .sound s B (r .second) (j .overrides) (r .third) (r .overrides) in
+    let k = exact-families (length (j .faces)) .sound s B (r .third) (j .families) (r .fourth) (r .families) in
+    let y = exact-requests .sound s B (r .fourth) (j .requests) q (r .requests) in
     record {
-      stands =
-          stood-as layout SectionsFit (d .is) (d .ends)
-          (record {
-            stands = join (f .stands) (join (g .stands) (join (k .stands) (y .stands)));
-            within = record { faces = f .within; overrides = g .within; families = k .within; requests = y .within };
-          });
-      last = subst (λ n. length s ≤ n) (d .ends) (d .last);
+      stands = record {
+        stands = join (f .stands) (join (g .stands) (join (k .stands) (y .stands)));
+        within = record { faces = f .within; overrides = g .within; families = k .within; requests = y .within };
+      };
+      last = r .last;
     }
 
 sections-complete : (s : List ℕ) (j : Job) (q : ℕ) → SectionsFit j → Stands s 0 (layout j) q → length s ≤ q → readSections s 0 ≡ got j q
@@ -91,10 +70,10 @@ sections-complete s j q w h l =
     let c = split (after16 layoutOverride (j .overrides)) _ (d .second) in
     let e = split (after16 layoutFamily (j .families)) (after16 layoutRequest (j .requests)) (c .second) in
     let n = length (j .faces) in
-    then-is (counted 256 readFace) _ s 0 (j .faces) _ (exact-faces .complete s 0 (j .faces) _ (w .faces) (d .first))
-    (then-is (counted 256 (readOverride n)) _ s _ (j .overrides) _ (exact-overrides n .complete s _ (j .overrides) _ (w .overrides) (c .first))
-    (then-is (counted 64 (readFamily n)) _ s _ (j .families) _ (exact-families n .complete s _ (j .families) _ (w .families) (e .first))
-    (then-is (counted 256 readRequest) _ s _ (j .requests) q (exact-requests .complete s _ (j .requests) q (w .requests) (e .second))
+    then-is (counted mostFaces readFace) _ s 0 (j .faces) _ (exact-faces .complete s 0 (j .faces) _ (w .faces) (d .first))
+    (then-is (counted mostOverrides (readOverride n)) _ s _ (j .overrides) _ (exact-overrides n .complete s _ (j .overrides) _ (w .overrides) (c .first))
+    (then-is (counted mostFamilies (readFamily n)) _ s _ (j .families) _ (exact-families n .complete s _ (j .families) _ (w .families) (e .first))
+    (then-is (counted mostRequests readRequest) _ s _ (j .requests) q (exact-requests .complete s _ (j .requests) q (w .requests) (e .second))
     (at-end-is j s q l))))
 
 -- ---- the two directions
@@ -111,54 +90,40 @@ all-of s x q h l = h .rest ∙ (ap (λ (z : List ℕ). x ++ z) (drop-of-length-l
 
 -- every accepted byte string is the layout of the job that is read, which is within the limits
 pub accepted-is-a-layout : (s : List ℕ) → Bytes s → (j : Job) (q : ℕ) → readJob s ≡ got j q → LaidOut s j q
-unfolding readJob
-accepted-is-a-layout s B j q = go (leb (length s) 16777216) refl
-  where
-    go : (b : Bool) → leb (length s) 16777216 ≡ b → cond b (readSections s 0) (refused overlong 0) ≡ got j q → LaidOut s j q
-    go false t e = absurd (let z : _≡_ {A = ℕ} 0 1 = cc in omega arith)
-    go true t e =
-        let w = sections-sound s B j q e in
-        let f = w .stands .within in
-        let same : s ≡ layout j = all-of s (layout j) q (w .stands .stands) (w .last) in
-        let long : length s ≤ 16777216 = leb-true (length s) 16777216 t in
-        record {
-          bytes = same;
-          fits = record {
-            bytes = subst (λ z. length z ≤ 16777216) same long;
-            faces = f .faces;
-            overrides = f .overrides;
-            families = f .families;
-            requests = f .requests;
-          };
-          end = omega (arith, w .stands .stands .next, ap length same);
-        }
+accepted-is-a-layout s B j q e =
+    let r = job-read s j q e in
+    let w = sections-sound s B j q (r .1) in
+    let f = w .stands .within in
+    let same : s ≡ layout j = all-of s (layout j) q (w .stands .stands) (w .last) in
+    record {
+      bytes = same;
+      fits = record {
+        bytes = subst (λ z. length z ≤ mostBytes) same (r .0);
+        faces = f .faces;
+        overrides = f .overrides;
+        families = f .families;
+        requests = f .requests;
+      };
+      end = omega (arith, w .stands .stands .next, ap length same);
+    }
 
 -- every job within the limits is accepted in its layout, and read as that job, to its end
 pub layout-is-accepted : (j : Job) → JobFits j → readJob (layout j) ≡ got j (length (layout j))
 unfolding readJob
 layout-is-accepted j w =
     let s = layout j in
-    simp (le-leb (length s) 16777216 (w .bytes))
+    simp (le-leb (length s) mostBytes (w .bytes))
     (sections-complete s j (length s) (record { faces = w .faces; overrides = w .overrides; families = w .families; requests = w .requests })
     (record { next = omega arith; rest = sym (append-nil s) ∙ ap (λ (z : List ℕ). s ++ z) (sym (drop-length s)) })
     (omega arith))
-
--- the check call's 0
-pub check-accepts : (s : List ℕ) → checkJob s .refusal ≡ 0 → (j : Job) × (q : ℕ) × (readJob s ≡ got j q)
-unfolding checkJob answer
-check-accepts s = go (readJob s) refl
-  where
-    go : (g : Got Job) → readJob s ≡ g → answer g .refusal ≡ 0 → (j : Job) × (q : ℕ) × (readJob s ≡ got j q)
-    go (refused w p) e h = absurd (number-nonzero w h)
-    go (got j q) e h = (j, q, e)
 
 -- the check call answers 0 and 0 exactly for the layouts of jobs within the limits
 pub accepted-exactly : (s : List ℕ) → Bytes s → (checkJob s ≡ record { refusal = 0; position = 0 }) ↔ ((j : Job) × (s ≡ layout j) × JobFits j)
 unfolding checkJob answer
 accepted-exactly s B = (
-  (λ e. let a = check-accepts s (ap (λ (c : Checked). c .refusal) e) in
-      let l = accepted-is-a-layout s B (a .0) (a .1) (a .2) in
-      (a .0, l .bytes, l .fits)),
+  (λ e. let a = accepted s (ap (λ (c : Checked). c .refusal) e) in
+      let l = accepted-is-a-layout s B (jobOf s) (a .0) (a .1) in
+      (jobOf s, l .bytes, l .fits)),
   (λ h. ap checkJob (h .1) ∙ ap answer (layout-is-accepted (h .0) (h .2))),
 )
 

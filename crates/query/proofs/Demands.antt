@@ -1,29 +1,26 @@
 -- Demands 1 and 3 over a job hold.
-use Prim.Native.Nat.{ℕ, _≤_}
-use mathlib.Core.Path.{_≡_, sym, ap, _∙_}
+use Prim.Native.Nat.{ℕ}
+use mathlib.Core.Path.{_≡_, refl, _∙_}
 use mathlib.Core.List.{List}
 use native.Mathlib.Omega.{arith}
 use lib.ListN.{length}
-use borrow.Author.Tests.{eq-eqb, ne-eqb}
-use Rattle.query.specs.declared.answer.Answer.{Answer}
+use borrow.Author.Tests.{ne-eqb}
+use Rattle.query.specs.Sizes.{recordSize}
 use Rattle.query.specs.Job.{Job, checkJob}
 use Rattle.query.specs.Layout.{Bytes, layout, JobFits}
-use Rattle.query.specs.Call.{withoutOffer, answerCall, written, unwritten, offerCall}
+use Rattle.query.specs.Call.{withoutOffer, written, unwritten, offerCall}
 use Rattle.query.specs.Demands.{Other, Demands}
 use Rattle.query.proofs.AcceptedJobs.{layout-is-accepted, every-other-refused}
-use Rattle.query.proofs.Called.{job-refused}
-use Rattle.query.proofs.CursorRun.{each-number, each-call, cursor-run}
+use Rattle.query.proofs.AnswerCases.{job-refused, call-written}
+use Rattle.query.proofs.CursorSteps.{each-number, each-call, cursor-run}
 
 -- a refused job leaves the output as it is
 left : (n : ℕ) (out : List ℕ) → (n ≡ 0 → ⊥) → written (withoutOffer n) out ≡ unwritten n out
 unfolding written withoutOffer
 left n out h = rw (ne-eqb n 0 h)
 
-untouched : (s : List ℕ) → (checkJob s .refusal ≡ 0 → ⊥) → (k n : ℕ) (out : List ℕ) → length out ≡ 40 → offerCall s k n out ≡ unwritten (checkJob s .refusal) out
-unfolding offerCall
-untouched s h k n out long =
-    rw (eq-eqb (length out) 40 long)
-    (ap (λ (a : Answer). written a out) (sym (job-refused s k n (checkJob s .refusal) (λ i. checkJob s .refusal) h)) ∙ left (checkJob s .refusal) out h)
+untouched : (s : List ℕ) → (checkJob s .refusal ≡ 0 → ⊥) → (k n : ℕ) (out : List ℕ) → length out ≡ recordSize → offerCall s k n out ≡ unwritten (checkJob s .refusal) out
+untouched s h k n out long = call-written s k n out long (job-refused s k n (checkJob s .refusal) refl h) ∙ left (checkJob s .refusal) out h
 
 others : (s : List ℕ) → Bytes s → (((job : Job) × (s ≡ layout job) × JobFits job) → ⊥) → Other s
 others s b h =

@@ -166,3 +166,37 @@ then-got {A} r k s p b t = go (r s p) refl
     go : (g : Got A) → r s p ≡ g → onward g (λ a q. k a s q) ≡ got b t → (a : A) × (q : ℕ) × (r s p ≡ got a q) × (k a s q ≡ got b t)
     go (refused w x) h e = absurd (let z : _≡_ {A = ℕ} 0 1 = cc in omega arith)
     go (got a q) h e = (a, q, h, e)
+
+-- what was read where reading ended without a refusal
+pub got-there : {A : Type 0} {g : Got A} {a : At} → a ≡ ended g → a .refusal ≡ 0 → (v : A) × (g ≡ got v (a .at))
+unfolding ended
+got-there {A} {g} {a} = go g
+  where
+    go : (g : Got A) → a ≡ ended g → a .refusal ≡ 0 → (v : A) × (g ≡ got v (a .at))
+    go (refused w p) e z = absurd (number-nonzero w (sym (ap (λ (x : At). x .refusal) e) ∙ z))
+    go (got v p) e z = (v, ap (got v) (sym (ap (λ (x : At). x .at) e)))
+
+-- and nothing where it ended with one
+pub not-got : {A : Type 0} {g : Got A} {a : At} {v : A} {q : ℕ} → a ≡ ended g → (a .refusal ≡ 0 → ⊥) → g ≡ got v q → ⊥
+unfolding ended
+not-got e h is = h (ap (λ (x : At). x .refusal) (e ∙ ap ended is))
+
+-- a reading that can end in one way alone
+abbrev pub ReadsAt : {A : Type 0} → Reader A → List ℕ → ℕ → A → ℕ → Type 0
+ReadsAt {A} r s p v q = (a : A) (u : ℕ) → r s p ≡ got a u → (a ≡ v) × (u ≡ q)
+
+-- what follows it
+pub then-at : {A B : Type 0} (r : Reader A) (k : A → Reader B) {s : List ℕ} {p : ℕ} {v : A} {q : ℕ} {b : B} {t : ℕ} (next : ℕ)
+    → ReadsAt r s p v q → q ≡ next → (r >>= k) s p ≡ got b t → k v s next ≡ got b t
+then-at r k {s} {p} {v} {q} {b} {t} next reads same e =
+    let h = then-got r k s p b t e in
+    let is = reads (h .0) (h .1) (h .2) in
+    let place : h .1 ≡ next = is .1 ∙ same in
+    rw (is .0, place) at (h .3)
+
+pub then-read : {A B : Type 0} (r : Reader A) (k : A → Reader B) {n : ℕ} {v : List ℕ → ℕ → A} {ok : A → Bool} {s : List ℕ} {p : ℕ} {b : B} {t : ℕ} (next : ℕ)
+    → ((a : A) (u : ℕ) → r s p ≡ got a u → Read n v ok s p a u) → p + n ≡ next → (r >>= k) s p ≡ got b t → k (v s p) s next ≡ got b t
+then-read r k next reads same e = then-at r k next (λ a u h. let x = reads a u h in (x .value, x .next)) same e
+
+pub same-got : {A : Type 0} {a b : A} {p q : ℕ} → got a p ≡ got b q → (b ≡ a) × (q ≡ p)
+same-got e = (cc, cc)

@@ -20,7 +20,7 @@ use Rattle.query.specs.Fields.{byte, half, word, single, ratio, value, c
 use Rattle.query.specs.Layout.{Bytes, bytes8, bytes16, bytes32, bytesOf, Fits8, Fits16, Fits32, IsNumber, IsRatio, IsValue}
 use Rattle.query.proofs.Ends.{Read}
 use Rattle.query.proofs.Leaves.{byteAt, singleAt, byte-read, half-read, word-read, ratio-read, value-read, count-read, held-read, face-number-read, mask-read, kind-read, spare-byte-read, spare-word-read}
-use Rattle.query.proofs.Singles.{ratio-finite}
+use Rattle.font.proofs.FiniteBits.{ratio-finite}
 use Rattle.query.proofs.Stands.{Stands, join, split, inside, one}
 
 -- what was read stands there, within the limits

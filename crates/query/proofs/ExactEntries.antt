@@ -21,6 +21,7 @@ use Rattle.font.specs.declared.overrides.StyleOverride.the-variants as Style
 use Rattle.font.specs.declared.overrides.WeightOverride.the-variants as Weight
 use Rattle.font.specs.Attributes.{attributesOf}
 use Rattle.font.specs.Reading.{bit}
+use Rattle.query.specs.Sizes.{mostPlaces}
 use Rattle.query.specs.Reader.{got, Reader, done, _>>=_}
 use Rattle.query.specs.Fields.{half, word, ratio, value, counted, byteCounted, heldByte, faceNumber, mask, kind, spareByte, spareWord, orSpare, fontFile}
 use Rattle.query.specs.Entries.{readFace, styleOfKind, readAngle, readStyle, readWidth, readWeight, styleOrSpare, readGiven, readPair, readOverride, readFamily, readRequested, readRequest}
@@ -368,15 +369,15 @@ exact-override n = record {
 pub exact-family : (n : ℕ) → Exact (readFamily n) layoutFamily (FamilyFits n)
 unfolding readFamily layoutFamily
 exact-family n =
-    let x = exact-counted (faceNumber n) bytes16 (λ i. (i < n) × Fits16 i) (exact-face-number n) 64 in
+    let x = exact-counted (faceNumber n) bytes16 (λ i. (i < n) × Fits16 i) (exact-face-number n) mostPlaces in
     record {
-      sound = λ s B p a q h. let t = then-got (counted 64 (faceNumber n)) _ s p a q h in
+      sound = λ s B p a q h. let t = then-got (counted mostPlaces (faceNumber n)) _ s p a q h in
           let d = done-got (record { members = t .0 }) a s (t .1) q (t .3) in
           let f = x .sound s B p (t .0) (t .1) (t .2) in
           stood-as layoutFamily (FamilyFits n) (d .0) (d .1)
           (record { stands = f .stands; within = record { few = f .within .0; members = f .within .1 } });
       complete = λ s p a q w h.
-          then-is (counted 64 (faceNumber n)) _ s p (a .members) q (x .complete s p (a .members) q (w .few, w .members) h) (done-is a s q);
+          then-is (counted mostPlaces (faceNumber n)) _ s p (a .members) q (x .complete s p (a .members) q (w .few, w .members) h) (done-is a s q);
     }
 
 -- ---- requests

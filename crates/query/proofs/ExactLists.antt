@@ -8,9 +8,9 @@ use lib.ListN.{length, take, drop, length-append, length-drop, take-append-drop}
 use lib.Seq.{drop-drop, take-append-seam, length-take-le}
 use lib.Dec.{leb, eqb}
 use borrow.Author.Tests.{le-leb, leb-true, eqb-true}
-use Rattle.font.specs.Font.{fromFontRef}
+use Rattle.font.specs.Font.{fontRefusal}
 use Rattle.query.specs.Reader.{Refusal, pastEnd, Got, refused, got, Reader, done, onward, _>>=_, many}
-use Rattle.query.specs.Fields.{byte, word, count, counted, byteCounted, fontRefusal, fontBytes, fontTaken, fontAt, fontFile}
+use Rattle.query.specs.Fields.{byte, word, count, counted, byteCounted, fontRow, fontBytes, fontTaken, fontAt, fontFile}
 use Rattle.query.specs.Layout.{Bytes, bytes8, bytes16, bytes32, each, after8, after16, layoutFont, Every, Fits8, Fits32}
 use Rattle.query.proofs.Ends.{then-got}
 use Rattle.query.proofs.Stands.{Stands, join, split, none}
@@ -113,14 +113,14 @@ font-bytes-got place n s p f q = go (leb (p + n) (length s)) refl
 pub record Taken (f a : List ℕ) (p q : ℕ) : Type 0 where
   pub is : f ≡ a
   pub ends : p ≡ q
-  pub taken : fromFontRef f .refusal ≡ 0
+  pub taken : fontRefusal f ≡ 0
 
 pub font-taken-got : (place : ℕ) (f : List ℕ) (s : List ℕ) (p : ℕ) (a : List ℕ) (q : ℕ) → fontTaken place f s p ≡ got a q → Taken f a p q
 unfolding fontTaken
-font-taken-got place f s p a q = go (eqb (fromFontRef f .refusal) 0) (fontRefusal (fromFontRef f .refusal)) refl
+font-taken-got place f s p a q = go (eqb (fontRefusal f) 0) (fontRow (fontRefusal f)) refl
   where
-    go : (b : Bool) (w : Refusal) → eqb (fromFontRef f .refusal) 0 ≡ b → cond b (got f p) (refused w place) ≡ got a q → Taken f a p q
-    go true w t e = record { is = cc; ends = cc; taken = eqb-true (fromFontRef f .refusal) 0 t }
+    go : (b : Bool) (w : Refusal) → eqb (fontRefusal f) 0 ≡ b → cond b (got f p) (refused w place) ≡ got a q → Taken f a p q
+    go true w t e = record { is = cc; ends = cc; taken = eqb-true (fontRefusal f) 0 t }
     go false w t e = absurd (let z : _≡_ {A = ℕ} 0 1 = cc in omega arith)
 
 -- a part of the job stands in it
@@ -135,7 +135,7 @@ part-stands s p n f q h =
     )
 
 abbrev pub FontFits : List ℕ → Type 0
-FontFits f = Fits32 (length f) × (fromFontRef f .refusal ≡ 0)
+FontFits f = Fits32 (length f) × (fontRefusal f ≡ 0)
 
 font-sound : (s : List ℕ) → Bytes s → (p : ℕ) (a : List ℕ) (q : ℕ) → fontFile s p ≡ got a q → Stood s p (layoutFont a) q (FontFits a)
 unfolding fontFile fontAt layoutFont

@@ -8,9 +8,9 @@ use lib.Dec.{eqb}
 use lib.Ieee.{ofBits, ofInt, le, lt, eq}
 use Rattle.font.specs.Single.{single, acceptedRatio}
 use Rattle.font.specs.Tables.{u16At, u32At, directoryFits}
-use Rattle.font.specs.Font.{fromFontRef, refusedFont}
+use Rattle.font.specs.Font.{fontRefusal}
 use Rattle.query.specs.Reader.{number, done, onward, _>>=_, field, tested, many}
-use Rattle.query.specs.Fields.{byte, half, word, ratio, value, count, counted, byteCounted, heldByte, faceNumber, kind, spareWord, orSpare, fontRefusal, fontBytes, fontTaken, fontAt, fontFile}
+use Rattle.query.specs.Fields.{byte, half, word, ratio, value, count, counted, byteCounted, heldByte, faceNumber, kind, spareWord, orSpare, fontRow, fontBytes, fontTaken, fontAt, fontFile}
 use Rattle.query.specs.Fields.{single as singleField}
 use Rattle.query.specs.Entries.{readFace, styleOfKind, readAngle, readStyle, readOverride, readFamily, readRequested, readRequest}
 use Rattle.query.specs.Job.{atEnd, readSections, readJob, answer, checkJob}
@@ -65,5 +65,5 @@ right [] = true
 right (c ∷ cs) = eqb (checkJob (c .job) .refusal) (c .refusal) && (eqb (checkJob (c .job) .position) (c .position) && right cs)
 
 pub small-jobs : right cases ≡ true
-unfolding right cases answers request zero4 checkJob readJob answer readSections counted byteCounted count tested field byte half word u16At u32At many done _>>=_ onward atEnd number readFace heldByte fontFile fontAt fontBytes fontTaken fontRefusal fromFontRef refusedFont directoryFits readOverride faceNumber readFamily readRequest readRequested ratio value singleField acceptedRatio single ofInt ofBits le lt eq readStyle kind orSpare spareWord readAngle styleOfKind
+unfolding right cases answers request zero4 checkJob readJob answer readSections counted byteCounted count tested field byte half word u16At u32At many done _>>=_ onward atEnd number readFace heldByte fontFile fontAt fontBytes fontTaken fontRow fontRefusal directoryFits readOverride faceNumber readFamily readRequest readRequested ratio value singleField acceptedRatio single ofInt ofBits le lt eq readStyle kind orSpare spareWord readAngle styleOfKind
 small-jobs = refl

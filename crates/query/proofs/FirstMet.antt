@@ -11,15 +11,15 @@ use lib.Dec.{leb, ltb, eqb}
 use lib.Ieee.{binary32, ofBits}
 use borrow.Author.Tests.{le-leb, lt-ltb, leb-true, ltb-true}
 use Rattle.font.specs.Tables.{u16At, u32At}
-use Rattle.font.specs.Font.{fromFontRef}
+use Rattle.font.specs.Font.{fontRefusal}
 use Rattle.font.proofs.Fields.{in16, in32}
+use Rattle.query.specs.Sizes.{mostBytes}
 use Rattle.query.specs.Reader.{Refusal, pastEnd, bytesLeft, number, Got, refused, got, Reader, done, onward, _>>=_, field, tested, many}
-use Rattle.query.specs.Fields.{byte, half, word, single, ratio, value, count, counted, byteCounted, heldByte, faceNumber, mask, kind, spareByte, spareWord, orSpare, fontRefusal, fontBytes, fontTaken, fontAt, fontFile}
+use Rattle.query.specs.Fields.{byte, half, word, single, ratio, value, count, counted, byteCounted, heldByte, faceNumber, mask, kind, spareByte, spareWord, orSpare, fontRow, fontBytes, fontTaken, fontAt, fontFile}
 use Rattle.query.specs.Entries.{readFace, readAngle, readStyle, readWidth, readWeight, styleOrSpare, readGiven, readPair, readOverride, readFamily, readRequested, readRequest}
-use Rattle.query.proofs.Ends.{then-got}
-use Rattle.query.proofs.Positions.{place, stays-sections}
-use Rattle.query.proofs.AcceptedJobs.{at-end-got, check-accepts}
-use Rattle.query.specs.Job.{Job, atEnd, readSections, readJob, answer, checkJob}
+use Rattle.query.proofs.Stays.{place, stays-sections}
+use Rattle.query.proofs.Checks.{accepted, job-read, sections-read}
+use Rattle.query.specs.Job.{Job, atEnd, readSections, readJob, answer, checkJob, jobOf}
 
 -- a second reading has what was read in a first one, and its refusal, unless that is 18
 Kept : {A : Type 0} → Got A → Got A → Type 0
@@ -143,7 +143,7 @@ keeps-font-bytes place n = record { keeps = λ s u p. go s u p (leb (p + n) (len
 keeps-font-taken : (place : ℕ) (font : List ℕ) → Keeps (fontTaken place font)
 unfolding fontTaken Kept
 keeps-font-taken place font =
-    record { keeps = λ s u p. go p (eqb (fromFontRef font .refusal) 0) (fontRefusal (fromFontRef font .refusal)) }
+    record { keeps = λ s u p. go p (eqb (fontRefusal font) 0) (fontRow (fontRefusal font)) }
   where
     go : (p : ℕ) (b : Bool) (w : Refusal) → Kept (cond b (got font p) (refused w place)) (cond b (got font p) (refused w place))
     go p true w = refl
@@ -195,7 +195,7 @@ keeps-override n =
 
 keeps-family : (n : ℕ) → Keeps (readFamily n)
 unfolding readFamily
-keeps-family n = keeps-then (keeps-counted 64 (keeps-face-number n)) (λ m. keeps-done _)
+keeps-family n = keeps-then (keeps-counted _ (keeps-face-number n)) (λ m. keeps-done _)
 
 keeps-request : Keeps readRequest
 unfolding readRequest readRequested
@@ -238,19 +238,19 @@ refuses-at-end a = record { refuses = λ s u p. go s u p (ltb p (length s)) refl
 refuses-sections : Refuses readSections
 unfolding readSections
 refuses-sections =
-    refuses-then (keeps-counted 256 keeps-face)
-    (λ f. refuses-then (keeps-counted 256 (keeps-override _))
-    (λ o. refuses-then (keeps-counted 64 (keeps-family _))
-    (λ m. refuses-then (keeps-counted 256 keeps-request) (λ q. refuses-at-end _))))
+    refuses-then (keeps-counted _ keeps-face)
+    (λ f. refuses-then (keeps-counted _ (keeps-override _))
+    (λ o. refuses-then (keeps-counted _ (keeps-family _))
+    (λ m. refuses-then (keeps-counted _ keeps-request) (λ q. refuses-at-end _))))
 
 -- bytes that follow change no refusal but 18
-pub refusal-stays : (s u : List ℕ) → length (s ++ u) ≤ 16777216 → (checkJob s .refusal ≡ 0 → ⊥) → (checkJob s .refusal ≡ 18 → ⊥)
+pub refusal-stays : (s u : List ℕ) → length (s ++ u) ≤ mostBytes → (checkJob s .refusal ≡ 0 → ⊥) → (checkJob s .refusal ≡ 18 → ⊥)
     → checkJob (s ++ u) ≡ checkJob s
 unfolding checkJob readJob answer KeptRefusal number
 refusal-stays s u l h k =
-    let m : length s ≤ 16777216 = omega (arith, length-append s u) in
-    let whole : readJob s ≡ readSections s 0 = simp (le-leb (length s) 16777216 m) in
-    let wider : readJob (s ++ u) ≡ readSections (s ++ u) 0 = simp (le-leb (length (s ++ u)) 16777216 l) in
+    let m : length s ≤ mostBytes = omega (arith, length-append s u) in
+    let whole : readJob s ≡ readSections s 0 = simp (le-leb (length s) mostBytes m) in
+    let wider : readJob (s ++ u) ≡ readSections (s ++ u) 0 = simp (le-leb (length (s ++ u)) mostBytes l) in
     ap answer wider
     ∙ (go (readSections s 0) (readSections (s ++ u) 0) (refuses-sections .refuses s u 0)
     (λ e. h (ap (λ (g : Got Job). answer g .refusal) whole ∙ e)) (λ e. k (ap (λ (g : Got Job). answer g .refusal) whole ∙ e))
@@ -262,31 +262,25 @@ refusal-stays s u l h k =
 
 -- an accepted job ends where its bytes end
 sections-end : (s : List ℕ) (j : Job) (q : ℕ) → readSections s 0 ≡ got j q → q ≡ length s
-unfolding readSections place
+unfolding place
 sections-end s j q h =
-    let t = then-got (counted 256 readFace) _ s 0 j q h in
-    let u = then-got (counted 256 (readOverride (length (t .0)))) _ s (t .1) j q (t .3) in
-    let v = then-got (counted 64 (readFamily (length (t .0)))) _ s (u .1) j q (u .3) in
-    let x = then-got (counted 256 readRequest) _ s (v .1) j q (v .3) in
-    let d = at-end-got (record { faces = t .0; overrides = u .0; families = v .0; requests = x .0 }) j s (x .1) q (x .3) in
-    let low : length s ≤ q = subst (λ n. length s ≤ n) (d .ends) (d .last) in
+    let low : length s ≤ q = sections-read s j q h .last in
     let high : q ≤ length s = subst (λ g. place g ≤ length s) h (stays-sections .stays s 0 (omega arith)) in
     omega arith
 
 -- bytes that follow an accepted job are 27, at the first of them
-pub bytes-after-are-27 : (s u : List ℕ) → length (s ++ u) ≤ 16777216 → 0 < length u → checkJob s .refusal ≡ 0
+pub bytes-after-are-27 : (s u : List ℕ) → length (s ++ u) ≤ mostBytes → 0 < length u → checkJob s .refusal ≡ 0
     → checkJob (s ++ u) ≡ record { refusal = 27; position = length s }
 unfolding checkJob readJob answer KeptRefusal number
 bytes-after-are-27 s u l m z =
-    let a = check-accepts s z in
-    let k : length s ≤ 16777216 = omega (arith, length-append s u) in
-    let whole : readSections s 0 ≡ got (a .0) (a .1) = sym (simp (le-leb (length s) 16777216 k)) ∙ a .2 in
-    let wider : readJob (s ++ u) ≡ readSections (s ++ u) 0 = simp (le-leb (length (s ++ u)) 16777216 l) in
-    let end : a .1 ≡ length s = sections-end s (a .0) (a .1) whole in
-    let kept : KeptRefusal (got (a .0) (a .1)) (readSections (s ++ u) 0) =
+    let a = accepted s z in
+    let whole = job-read s (jobOf s) (a .0) (a .1) .1 in
+    let wider : readJob (s ++ u) ≡ readSections (s ++ u) 0 = simp (le-leb (length (s ++ u)) mostBytes l) in
+    let end : a .0 ≡ length s = sections-end s (jobOf s) (a .0) whole in
+    let kept : KeptRefusal (got (jobOf s) (a .0)) (readSections (s ++ u) 0) =
     subst (λ g. KeptRefusal g (readSections (s ++ u) 0)) whole (refuses-sections .refuses s u 0) in
     ap answer wider
     ∙ ⊎-elim
-    (λ e. absurd (let more : a .1 ≡ length (s ++ u) = sections-end (s ++ u) (a .0) (a .1) e in omega (arith, length-append s u)))
+    (λ e. absurd (let more : a .0 ≡ length (s ++ u) = sections-end (s ++ u) (jobOf s) (a .0) e in omega (arith, length-append s u)))
     (λ e. ap answer e ∙ ap (λ (n : ℕ). record { refusal = 27; position = n }) end)
     kept

@@ -3,6 +3,7 @@ use Prim.Native.Nat.{ℕ, _+_, _-_, _≤_, _<_}
 use mathlib.Core.Path.{_≡_, refl, sym, ap, _∙_}
 use mathlib.Core.Bool.{Bool, true, false, cond}
 use mathlib.Core.List.{List}
+use native.Mathlib.Omega.{arith}
 use lib.ListN.{length, getD}
 use lib.Dec.{leb, ltb, eqb}
 use lib.Ieee.{Float, binary32, ofBits}
@@ -12,7 +13,12 @@ use Rattle.font.specs.Tables.{u16At, u32At}
 use Rattle.query.specs.declared.fields.At.{At}
 use Rattle.query.specs.Reader.{Reader, Got, refused, overLimit, notHeld, noFace, unknown, badNumber, got, done, _>>=_, many, ended}
 use Rattle.query.specs.Fields.{byte, half, word, single, ratio, value, count, counted, heldByte, faceNumber, mask, kind, spareByte, spareWord, orSpare}
-use Rattle.query.proofs.Ends.{number-nonzero, Read, field-read, tested-read, ends, then-got, many-length, many-goes}
+use Rattle.query.specs.declared.sections.Section.{Section}
+use Rattle.query.specs.declared.sections.Section.the-variants.{Faces, Overrides, Families, Requests}
+use Rattle.query.specs.Sizes.{mostPlaces}
+use Rattle.query.specs.Entries.{readFace, readOverride, readFamily, readRequest}
+use Rattle.query.specs.Sections.{Entry, readEntry}
+use Rattle.query.proofs.Ends.{number-nonzero, Read, field-read, tested-read, ends, then-got, got-there, many-length, many-goes}
 
 abbrev pub byteAt : List ℕ → ℕ → ℕ
 byteAt s p = getD s p 0
@@ -91,8 +97,8 @@ pub or-spare-ends : {A B : Type 0} {a : At} (b c : Bool) (none : B) (r : Reader 
 unfolding orSpare
 or-spare-ends true true none r f s p h e = ends r f s p e
 or-spare-ends false false none r f s p h e = ends spareWord (λ v. none) s p e
-or-spare-ends true false none r f s p h e = absurd (let z : _≡_ {A = ℕ} 0 1 = cc in omega native.Mathlib.Omega.arith)
-or-spare-ends false true none r f s p h e = absurd (let z : _≡_ {A = ℕ} 0 1 = cc in omega native.Mathlib.Omega.arith)
+or-spare-ends true false none r f s p h e = absurd (let z : _≡_ {A = ℕ} 0 1 = cc in omega arith)
+or-spare-ends false true none r f s p h e = absurd (let z : _≡_ {A = ℕ} 0 1 = cc in omega arith)
 
 -- entries after a 16-bit count are as many as it says
 pub counted-length : {A : Type 0} (limit : ℕ) (r : Reader A) (s : List ℕ) (p : ℕ) (xs : List A) (q : ℕ) → counted limit r s p ≡ got xs q → length xs ≡ u16At s p
@@ -100,3 +106,17 @@ unfolding counted
 counted-length limit r s p xs q e =
     let h = then-got (count limit) (λ n. many n r) s p xs q e in
     many-length r (h .0) s (h .1) xs q (h .3) ∙ count-read limit s p (h .0) (h .1) (h .2) .value
+
+-- an entry begins in the job
+pub entry-starts : (section : Section) (s : List ℕ) (p : ℕ) (a : Entry section) (q : ℕ) → readEntry section s p ≡ got a q → p < length s
+unfolding readFace readOverride readFamily readRequest counted
+entry-starts Faces s p a q e = let h = then-got heldByte _ s p a q e in omega (arith, held-read s p (h .0) (h .1) (h .2) .inside)
+entry-starts (Overrides n) s p a q e = let h = then-got (faceNumber n) _ s p a q e in omega (arith, face-number-read n s p (h .0) (h .1) (h .2) .inside)
+entry-starts (Families n) s p a q e =
+    let g = then-got (counted mostPlaces (faceNumber n)) _ s p a q e in
+    let h = then-got (count mostPlaces) _ s p (g .0) (g .1) (g .2) in
+    omega (arith, count-read mostPlaces s p (h .0) (h .1) (h .2) .inside)
+entry-starts Requests s p a q e = let h = then-got half _ s p a q e in omega (arith, half-read s p (h .0) (h .1) (h .2) .inside)
+
+pub entry-begins : (section : Section) (s : List ℕ) (p : ℕ) {a : At} → a ≡ ended (readEntry section s p) → a .refusal ≡ 0 → p < length s
+entry-begins section s p e z = let r = got-there e z in entry-starts section s p (r .0) _ (r .1)

@@ -1,12 +1,14 @@
 -- Laws that the proofs of `query` share, and the theorems on the job.
 -- How a reading ends: what the code of a field, an entry and a section is proved from.
 pub mod Ends
-pub mod Singles
 pub mod Leaves
+pub mod Halves
 pub mod Fonts
 pub mod Checks
-pub mod Positions
-pub mod Walked
+pub mod Stays
+pub mod NotedEntries
+pub mod Counted
+pub mod WalkCases
 -- A byte string is accepted exactly when it is the layout of a job within the limits.
 pub mod Stands
 pub mod Exact
@@ -16,33 +18,30 @@ pub mod AcceptedJobs
 -- First met, reading left to right.
 pub mod FirstMet
 pub mod Examples
--- Laws that several proofs cite.
-pub mod Runs
--- The offers.
-pub mod Picked
-pub mod Places
-pub mod Defaults
-pub mod Gathered
-pub mod Turns
+-- The offers' bytes.
 pub mod Written
 pub mod Signs
-pub mod Run
-pub mod Listed
-pub mod Tried
--- From a job's bytes to its families and requests.
-pub mod Entered
-pub mod Glued
-pub mod Called
--- From a job's bytes to the numbers of its faces.
-pub mod Ordered
-pub mod Stated
-pub mod Loads
-pub mod Replacing
-pub mod Laid
-pub mod Applied
-pub mod Loaded
-pub mod Finds
-pub mod Requests
-pub mod Calls
-pub mod CursorRun
+-- The n-th of a list.
+pub mod Picked
+-- What lies at a position of an accepted job.
+pub mod EvenEntries
+pub mod FacesAt
+pub mod OverridesLeft
+pub mod OverriddenFaces
+-- What is loaded of an accepted job: rows, families and the asked request.
+pub mod RowsAfter
+pub mod OverriddenRows
+pub mod FamiliesAt
+pub mod JobTables
+-- The offers of a family and of a request.
+pub mod KeptPlaces
+pub mod FamilyLists
+pub mod RowFamilies
+pub mod Turns
+pub mod SoundOffers
+pub mod TwoFaces
+-- The offer call, the cursor, and the demands over a job.
+pub mod NamedFaces
+pub mod AnswerCases
+pub mod CursorSteps
 pub mod Demands

@@ -44,13 +44,6 @@ module _ {A B : Type 0} (found : A → B) (past : ℕ → B) where
   pick-in (x ∷ xs) zero d l = refl
   pick-in (x ∷ xs) (suc n) d l = pick-in xs n d (omega arith)
 
-  -- more at the end changes nothing before it
-  pub pick-kept : (xs ys : List A) (n : ℕ) → n < length xs → pick found past (xs ++ ys) n ≡ pick found past xs n
-  unfolding pick
-  pick-kept [] ys n l = absurd (omega arith)
-  pick-kept (x ∷ xs) ys zero l = refl
-  pick-kept (x ∷ xs) ys (suc n) l = pick-kept xs ys n (omega arith)
-
 -- a list that is cut after m
 module _ {A B : Type 0} (found : A → B) (past : B) where
   pub pick-take : (m : ℕ) (xs : List A) (n : ℕ) → pick found (λ k. past) (take m xs) n ≡ cond (ltb n m) (pick found (λ k. past) xs n) past

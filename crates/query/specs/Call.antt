@@ -14,11 +14,12 @@ use Rattle.query.specs.declared.answer.Offer.{Offer}
 use Rattle.query.specs.declared.offers.Offered.{Offered}
 use Rattle.query.specs.declared.offers.Offered.the-variants.{At, Past}
 use Rattle.query.specs.declared.answer.Answer.{Answer}
+use Rattle.query.specs.Sizes.{recordSize}
 use Rattle.query.specs.Reader.{number, Got, refused, got}
 use Rattle.query.specs.Entries.{Request}
 use Rattle.query.specs.Job.{Job, readJob}
-use Rattle.query.specs.Offers.{offerOf, offerAt}
-use Rattle.query.specs.Sheet.{offersOf, faceOfOffer, synthesisOfOffer}
+use Rattle.query.specs.View.{View, viewOf}
+use Rattle.query.specs.Offers.{offerOf, offersOf, faceOfOffer, synthesisOfOffer, offerAt}
 use Rattle.query.specs.Record.{recordBytes}
 
 -- ---- the answer to a request and an offer number, before a byte is written
@@ -41,9 +42,9 @@ withSynthesis o made index =
     (record { result = 0; offer = o; synthesis = made; «charmap_index» = index })
 
 -- "answers the offer of the number asked for, with its synthesis", or 1, "past the list"
-unfoldable pub answered : Job → Request → Offered → Answer
-answered job r (At o) = withSynthesis o (synthesisOfOffer job r o) (faceOfOffer job o .«charmap_index»)
-answered job r Past = withoutOffer 1
+unfoldable pub answered : View → Request → Offered → Answer
+answered view r (At o) = withSynthesis o (synthesisOfOffer view r o) (faceOfOffer view o .«charmap_index»)
+answered view r Past = withoutOffer 1
 
 -- the request of a number; what stands past the list is read by nothing
 unfoldable pub requestOfJob : Job → ℕ → Request
@@ -53,7 +54,7 @@ requestOfJob job k = getD (job .requests) k (record { most = 0; attributes = def
 unfoldable pub requestAnswer : Job → ℕ → ℕ → Answer
 requestAnswer job k n =
     cond (ltb k (length (job .requests)))
-    (answered job (requestOfJob job k) (offerAt (offersOf job (requestOfJob job k)) n))
+    (answered (viewOf job) (requestOfJob job k) (offerAt (offersOf (viewOf job) (requestOfJob job k)) n))
     (withoutOffer 28)
 
 unfoldable pub jobAnswer : Got Job → ℕ → ℕ → Answer
@@ -84,7 +85,7 @@ written a out =
 
 -- 16 is "output not 40 bytes", met before the job
 unfoldable pub offerCall : List ℕ → ℕ → ℕ → List ℕ → Called
-offerCall job k n out = cond (eqb (length out) 40) (written (answerCall job k n) out) (unwritten 16 out)
+offerCall job k n out = cond (eqb (length out) recordSize) (written (answerCall job k n) out) (unwritten 16 out)
 
 -- the result and the output are those of the definition
 pub record Calls (called : Called) (result : ℕ) (output : List ℕ) : Type 0 where

@@ -5,11 +5,12 @@ use mathlib.Core.List.{List, _++_, map}
 use lib.ListN.{length, take, replicate}
 use Rattle.query.specs.declared.answer.Offer.{Offer}
 use Rattle.query.specs.declared.answer.Answer.{Answer}
+use Rattle.query.specs.Sizes.{recordSize}
 use Rattle.query.specs.Reader.{got}
 use Rattle.query.specs.Job.{Job, readJob, checkJob}
 use Rattle.query.specs.Layout.{Bytes, layout, JobFits}
-use Rattle.query.specs.Offers.{pick}
-use Rattle.query.specs.Sheet.{offersOf, faceOfOffer, synthesisOfOffer}
+use Rattle.query.specs.View.{viewOf}
+use Rattle.query.specs.Offers.{pick, offersOf, faceOfOffer, synthesisOfOffer}
 use Rattle.query.specs.Record.{recordBytes}
 use Rattle.query.specs.Call.{Called, withoutOffer, requestOfJob, answerCall, unwritten, offerCall}
 use Rattle.query.specs.Cursor.{fresh, run}
@@ -17,7 +18,7 @@ use Rattle.query.specs.Cursor.{fresh, run}
 module _ (job : Job) (k : ℕ) where
   -- the list of a request's offers
   abbrev pub listed : List Offer
-  listed = offersOf job (requestOfJob job k)
+  listed = offersOf (viewOf job) (requestOfJob job k)
 
   -- an offer "with its synthesis", and its charmap index
   abbrev pub offered : Offer → Answer
@@ -25,25 +26,25 @@ module _ (job : Job) (k : ℕ) where
       record {
         result = 0;
         offer = o;
-        synthesis = synthesisOfOffer job (requestOfJob job k) o;
-        «charmap_index» = faceOfOffer job o .«charmap_index»;
+        synthesis = synthesisOfOffer (viewOf job) (requestOfJob job k) o;
+        «charmap_index» = faceOfOffer (viewOf job) o .«charmap_index»;
       }
 
   -- the same in 40 bytes
   abbrev pub offerBytes : Offer → Called
   offerBytes o =
-      record { result = 0; output = recordBytes o (synthesisOfOffer job (requestOfJob job k) o) (faceOfOffer job o .«charmap_index») }
+      record { result = 0; output = recordBytes o (synthesisOfOffer (viewOf job) (requestOfJob job k) o) (faceOfOffer (viewOf job) o .«charmap_index») }
 
 -- "Every job that keeps document 01's layout and limits is read to its end and each request in it gets its offers."
 pub record Kept (job : Job) : Type 0 where
   pub end : readJob (layout job) ≡ got job (length (layout job))
-  pub offers : (k n : ℕ) → k < length (job .requests) → (out : List ℕ) → length out ≡ 40
+  pub offers : (k n : ℕ) → k < length (job .requests) → (out : List ℕ) → length out ≡ recordSize
       → offerCall (layout job) k n out ≡ pick (offerBytes job k) (λ i. unwritten 1 out) (listed job k) n
 
 -- "Every other job .. gets the refusal of 01's table, with the output buffer untouched."
 pub record Other (s : List ℕ) : Type 0 where
   pub refusal : (17 ≤ checkJob s .refusal) × (checkJob s .refusal ≤ 27)
-  pub untouched : (k n : ℕ) (out : List ℕ) → length out ≡ 40 → offerCall s k n out ≡ unwritten (checkJob s .refusal) out
+  pub untouched : (k n : ℕ) (out : List ℕ) → length out ≡ recordSize → offerCall s k n out ≡ unwritten (checkJob s .refusal) out
 
 -- "An offer call that 01 does not refuse answers the offer of the number asked for, with its synthesis, or, exactly where the list has no such offer,
 -- that it lies past the list. .. a fresh cursor stepped any number of times .. gives the same offers, each with its synthesis, in order, then "past the list" each time."

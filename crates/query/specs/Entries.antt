@@ -18,6 +18,7 @@ use Rattle.font.specs.declared.overrides.StyleOverride.the-variants as Style
 use Rattle.font.specs.declared.overrides.WeightOverride.the-variants as Weight
 use Rattle.font.specs.Attributes.{attributesOf}
 use Rattle.font.specs.Reading.{bit}
+use Rattle.query.specs.Sizes.{mostPlaces}
 use Rattle.query.specs.Reader.{Reader, done, _>>=_}
 use Rattle.query.specs.Fields.{half, word, ratio, value, counted, byteCounted, heldByte, faceNumber, mask, kind, spareByte, spareWord, orSpare, fontFile}
 
@@ -105,7 +106,7 @@ pub record Family : Type 0 where
 
 unfoldable pub readFamily : ℕ → Reader Family
 readFamily faces = do
-  members ← counted 64 (faceNumber faces)
+  members ← counted mostPlaces (faceNumber faces)
   done (record { members = members })
 
 -- "16-bit most offers, ratio, style, weight, then two lists (families, fallbacks), each a byte count and 16-bit numbers"

@@ -8,7 +8,7 @@ use lib.Ieee.{Float, binary32, ofBits}
 use lib.Ieee.Scale.{finite}
 use Rattle.font.specs.Single.{acceptedRatio}
 use Rattle.font.specs.Tables.{u16At, u32At}
-use Rattle.font.specs.Font.{fromFontRef}
+use Rattle.font.specs.Font.{fontRefusal}
 use Rattle.query.specs.declared.fields.At.{At}
 use Rattle.query.specs.Reader.{Refusal, pastEnd, overLimit, notHeld, badDirectory, noCharmap, manyAxes, noFace, unknown, badNumber, Reader, refused, got, done, field, tested, many, _>>=_}
 
@@ -80,8 +80,8 @@ orSpare false none r = do
   done none
 
 -- 21 to 23, by the font layer's number
-unfoldable pub fontRefusal : ℕ → Refusal
-fontRefusal n = cond (eqb n 21) badDirectory (cond (eqb n 22) noCharmap manyAxes)
+unfoldable pub fontRow : ℕ → Refusal
+fontRow n = cond (eqb n 21) badDirectory (cond (eqb n 22) noCharmap manyAxes)
 
 -- the bytes of a font file; past the end they are refused at the length field
 unfoldable pub fontBytes : ℕ → ℕ → Reader (List ℕ)
@@ -90,7 +90,7 @@ fontBytes place n s p = cond (leb (p + n) (length s)) (got (take n (drop p s)) (
 -- a font file that the font layer takes, or its refusal at the length field
 unfoldable pub fontTaken : ℕ → List ℕ → Reader (List ℕ)
 fontTaken place font s p =
-    cond (eqb (fromFontRef font .refusal) 0) (got font p) (refused (fontRefusal (fromFontRef font .refusal)) place)
+    cond (eqb (fontRefusal font) 0) (got font p) (refused (fontRow (fontRefusal font)) place)
 
 -- "32-bit length, font file": one field, whose position is "a font's: its length field"
 unfoldable pub fontAt : ℕ → Reader (List ℕ)

@@ -1,10 +1,11 @@
 -- Section 6: the job, and the check call's answer.
 use Prim.Native.Nat.{ℕ}
 use mathlib.Core.Bool.{cond}
-use mathlib.Core.List.{List}
+use mathlib.Core.List.{List, []}
 use lib.ListN.{length}
 use lib.Dec.{leb, ltb}
 use Rattle.query.specs.declared.job.Checked.{Checked}
+use Rattle.query.specs.Sizes.{mostBytes, mostFaces, mostOverrides, mostFamilies, mostRequests}
 use Rattle.query.specs.Reader.{overlong, bytesLeft, number, Got, refused, got, Reader, _>>=_}
 use Rattle.query.specs.Fields.{counted}
 use Rattle.query.specs.Entries.{Face, Override, Family, Request, readFace, readOverride, readFamily, readRequest}
@@ -22,15 +23,15 @@ atEnd a s p = cond (ltb p (length s)) (refused bytesLeft p) (got a p)
 -- "Four sections, each after a 16-bit count: Faces (to 256) .. Overrides (to 256) .. Families (to 64) .. Requests (to 256)"
 unfoldable pub readSections : Reader Job
 readSections = do
-  faces ← counted 256 readFace
-  overrides ← counted 256 (readOverride (length faces))
-  families ← counted 64 (readFamily (length faces))
-  requests ← counted 256 readRequest
+  faces ← counted mostFaces readFace
+  overrides ← counted mostOverrides (readOverride (length faces))
+  families ← counted mostFamilies (readFamily (length faces))
+  requests ← counted mostRequests readRequest
   atEnd (record { faces = faces; overrides = overrides; families = families; requests = requests })
 
 -- 17 is "job over 16,777,216 bytes": "Call rows, then the whole job"
 unfoldable pub readJob : List ℕ → Got Job
-readJob s = cond (leb (length s) 16777216) (readSections s 0) (refused overlong 0)
+readJob s = cond (leb (length s) mostBytes) (readSections s 0) (refused overlong 0)
 
 -- "the check call, which takes the job alone, adds the field's position (.. 0 for Call ..) and answers 0 and 0 for an accepted job"
 unfoldable pub answer : Got Job → Checked
@@ -39,3 +40,11 @@ answer (got j p) = record { refusal = 0; position = 0 }
 
 unfoldable pub checkJob : List ℕ → Checked
 checkJob s = answer (readJob s)
+
+-- the job that accepted bytes are read as; of others nothing is said
+unfoldable pub jobIn : Got Job → Job
+jobIn (refused why p) = record { faces = []; overrides = []; families = []; requests = [] }
+jobIn (got j p) = j
+
+unfoldable pub jobOf : List ℕ → Job
+jobOf s = jobIn (readJob s)

@@ -20,7 +20,8 @@ use Rattle.font.specs.declared.overrides.WidthOverride.the-variants as Width
 use Rattle.font.specs.declared.overrides.StyleOverride.the-variants as Style
 use Rattle.font.specs.declared.overrides.WeightOverride.the-variants as Weight
 use Rattle.font.specs.Single.{acceptedRatio}
-use Rattle.font.specs.Font.{fromFontRef}
+use Rattle.font.specs.Font.{fontRefusal}
+use Rattle.query.specs.Sizes.{mostBytes, mostFaces, mostOverrides, mostFamilies, mostPlaces, mostRequests}
 use Rattle.query.specs.Entries.{Face, Pair, Override, Family, Request}
 use Rattle.query.specs.Job.{Job}
 
@@ -170,7 +171,7 @@ IsValue x = IsNumber finite x
 -- a font file that section 2 does not refuse
 pub record FaceFits (f : Face) : Type 0 where
   pub long : Fits32 (length (f .font))
-  pub taken : fromFontRef (f .font) .refusal ≡ 0
+  pub taken : fontRefusal (f .font) ≡ 0
 
 unfoldable pub AngleFits : Angle → Type 0
 AngleFits Unstated = Unit {0}
@@ -204,7 +205,7 @@ pub record OverrideFits (n : ℕ) (o : Override) : Type 0 where
   pub pairs : Fits8 (length (o .pairs)) × Every PairFits (o .pairs)
 
 pub record FamilyFits (n : ℕ) (m : Family) : Type 0 where
-  pub few : length (m .members) ≤ 64
+  pub few : length (m .members) ≤ mostPlaces
   pub members : Every (λ i. (i < n) × Fits16 i) (m .members)
 
 pub record RequestFits (r : Request) : Type 0 where
@@ -217,8 +218,8 @@ pub record RequestFits (r : Request) : Type 0 where
 
 -- "Faces (to 256) .. Overrides (to 256) .. Families (to 64) .. Requests (to 256)", of at most 16,777,216 bytes
 pub record JobFits (j : Job) : Type 0 where
-  pub bytes : length (layout j) ≤ 16777216
-  pub faces : (length (j .faces) ≤ 256) × Every FaceFits (j .faces)
-  pub overrides : (length (j .overrides) ≤ 256) × Every (OverrideFits (length (j .faces))) (j .overrides)
-  pub families : (length (j .families) ≤ 64) × Every (FamilyFits (length (j .faces))) (j .families)
-  pub requests : (length (j .requests) ≤ 256) × Every RequestFits (j .requests)
+  pub bytes : length (layout j) ≤ mostBytes
+  pub faces : (length (j .faces) ≤ mostFaces) × Every FaceFits (j .faces)
+  pub overrides : (length (j .overrides) ≤ mostOverrides) × Every (OverrideFits (length (j .faces))) (j .overrides)
+  pub families : (length (j .families) ≤ mostFamilies) × Every (FamilyFits (length (j .faces))) (j .families)
+  pub requests : (length (j .requests) ≤ mostRequests) × Every RequestFits (j .requests)

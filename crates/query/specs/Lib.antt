@@ -1,15 +1,19 @@
 -- What the contracts of `query` cite. Each definition is written from the scope's section 6.
+pub mod Sizes
 pub mod Reader
 pub mod Fields
 pub mod Entries
 pub mod Job
 pub mod Layout
+pub mod View
 pub mod Offers
 pub mod Record
-pub mod Cursor
-pub mod Sheet
-pub mod Located
-pub mod Load
 pub mod Call
-pub mod Found
+pub mod Cursor
 pub mod Demands
+-- How the steps of a call hand on what they found: nothing here is a promise to a user.
+pub mod Sections
+pub mod Positions
+pub mod Values
+pub mod CallTables
+pub mod Listed

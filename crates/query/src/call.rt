@@ -1,27 +1,33 @@
 // The offer call.
 ghost use mathlib.Core.Path.{_≡_};
-ghost use mathlib.Core.Bool.{true};
-ghost use Prim.Native.Nat.{_+_};
+ghost use Prim.Native.Nat.{_≤_, _<_};
 ghost use lib.ListN.{length};
 ghost use Rattle.font.specs.Tables.{u16At};
 ghost use Rattle.matching.specs.Synthesis.{synthesized, variesOf};
-ghost use Rattle.query.specs.Located.{familiesPlace, requestedAt};
-ghost use Rattle.query.specs.Found.{Placed, Inside, Told, Names, Named, Answers};
+ghost use Rattle.query.specs.Sizes.{fewFaces};
+ghost use Rattle.query.specs.CallTables.{Room, TablesOf};
+ghost use Rattle.query.specs.Listed.{SectionIn, Names, answerAt, Readable, Locates, SearchAnswer, LeadsTo};
 ghost use Rattle.query.specs.Call.{withoutOffer, withSynthesis, answerCall, offerCall, Calls};
 use crate::answer::Answer;
 use crate::answer::Offer;
-use crate::job;
-use crate::load;
-use crate::located;
+use crate::faces;
+use crate::fields::wide;
+use crate::job::Walked;
+use crate::loading;
 use crate::offers;
 use crate::offers::Offered;
 use crate::record;
+use crate::sizes;
+use crate::values;
 use font::attributes::Attributes;
 use font::charmap::CharmapIndex;
 use font::font::FontInfo;
 use font::tables;
 use matching::face;
 use matching::matching::request_of;
+use matching::rows::COLUMNS;
+use matching::rows::MARKS;
+use matching::rows::Row;
 use matching::synthesis;
 use matching::synthesis::Synthesis;
 
@@ -61,120 +67,141 @@ fn with_synthesis(offer: Offer, font: FontInfo, wanted: Attributes) -> Answer
     }
 }
 
-// The n-th offer of the request at a position of an accepted job. The overrides are applied once, to the numbers of the faces.
-fn find(
-    job: &[u8],
-    section: usize,
-    families: usize,
-    family_at: &[u32; 64],
-    at: usize,
-    wanted: Attributes,
-    n: usize,
-) -> Offered
-    requires { ⌜ Placed (now job) section (now «family_at») ⌝ }
-    requires { ⌜ families ≡ u16At (now job) (familiesPlace (now job)) ⌝ }
-    requires { ⌜ Inside (now job) at ⌝ }
-    requires { ⌜ wanted ≡ requestedAt (now job) (at + 2) ⌝ }
-    ensures { λ r. ⌜ Told (now (job .entry)) at n r ⌝ }
-{
-    let mut percents = [0u32; 256];
-    let mut styles = [0u32; 256];
-    let mut weights = [0u32; 256];
-    let mut ratios = [0u32; 256];
-    let mut slants = [false; 256];
-    let mut held = [false; 256];
-    load::load(
-        job,
-        section,
-        &mut percents,
-        &mut styles,
-        &mut weights,
-        &mut ratios,
-        &mut slants,
-        &mut held,
-    );
-    offers::request_offer(
-        job,
-        at + 15,
-        tables::u16_at(job, at) as usize,
-        family_at,
-        families,
-        &percents,
-        &styles,
-        &weights,
-        &ratios,
-        &slants,
-        &held,
-        request_of(wanted, true),
-        n,
-    )
+// What the search for an offer gives: 0 and the offer, with its face's number, where that face's entry and the overrides
+// lie, and the request's attributes; else the result alone.
+pub(crate) struct SearchResult {
+    pub result: u32,
+    pub offer: Offer,
+    pub number: usize,
+    pub entry: usize,
+    pub section: usize,
+    pub wanted: Attributes,
 }
 
-// The face that an offer names, after the overrides.
-fn named_face(job: &[u8], section: usize, family_at: &[u32; 64], offer: Offer) -> FontInfo
-    requires { ⌜ Placed (now job) section (now «family_at») ⌝ }
-    requires { ⌜ Names (now job) offer ⌝ }
-    ensures { λ r. ⌜ Named (now (job .entry)) offer r ⌝ }
+fn no_offer(result: u32) -> SearchResult
+    ensures { λ r. ⌜ r .result ≡ result ⌝ }
 {
-    let number = located::member_at(job, family_at, offer.family, offer.place) as usize;
-    let count = tables::u16_at(job, section) as usize;
-    load::offered_face(job, load::face_at(job, number), section + 2, count, number)
-}
-
-// The answer to the request at a position of an accepted job.
-fn answer_request(
-    job: &[u8],
-    section: usize,
-    families: usize,
-    family_at: &[u32; 64],
-    at: usize,
-    n: usize,
-) -> Answer
-    requires { ⌜ Placed (now job) section (now «family_at») ⌝ }
-    requires { ⌜ families ≡ u16At (now job) (familiesPlace (now job)) ⌝ }
-    requires { ⌜ Inside (now job) at ⌝ }
-    ensures { λ r. ⌜ Answers (now (job .entry)) at n r ⌝ }
-{
-    let wanted = located::requested(job, at + 2);
-    match find(job, section, families, family_at, at, wanted, n) {
-        Offered::At(offer) => {
-            let font = named_face(job, section, family_at, offer);
-            with_synthesis(offer, font, wanted)
-        }
-        Offered::Past => without_offer(1),
+    SearchResult {
+        result,
+        offer: Offer {
+            family: 0,
+            place: 0,
+        },
+        number: 0,
+        entry: 0,
+        section: 0,
+        wanted: Attributes::DEFAULT,
     }
+}
+
+// An offer with where its face lies. The section of the overrides lies at `section`.
+fn place_of_face(
+    job: &[u8],
+    section: usize,
+    rows: &[Row],
+    families: &[u32; 64],
+    offer: Offer,
+    wanted: Attributes,
+) -> SearchResult
+    requires { ⌜ TablesOf (now job) (now rows) (now families) × SectionIn (now job) section ⌝ }
+    requires { ⌜ Names (now job) offer ⌝ }
+    ensures { λ r. ⌜ Locates (now (job .entry)) offer wanted r ⌝ }
+{
+    let family = offer.family as usize;
+    let at = wide(families[family]);
+    let number = tables::u16_at(job, at + 2 + 2 * (offer.place as usize)) as usize;
+    let entry = wide(rows[number][MARKS] / 4);
+    SearchResult {
+        result: 0,
+        offer,
+        number,
+        entry,
+        section,
+        wanted,
+    }
+}
+
+// The search in the request that an accepted job was loaded for.
+fn search_request(
+    job: &[u8],
+    walked: Walked,
+    rows: &[Row],
+    families: &[u32; 64],
+    n: usize,
+) -> SearchResult
+    requires { ⌜ TablesOf (now job) (now rows) (now families) × SectionIn (now job) (walked .overrides) ⌝ }
+    requires { ⌜ walked .request < length (now job) ⌝ }
+    ensures { λ r. ⌜ LeadsTo (now (job .entry)) (answerAt (now (job .entry)) (walked .request) n) r ⌝ }
+{
+    let at = walked.request;
+    let wanted = values::attributes_at(job, at + sizes::REQUEST_ATTRIBUTES);
+    match offers::request_offer(job, at, rows, families, request_of(wanted, true), n) {
+        Offered::At(offer) => place_of_face(job, walked.overrides, rows, families, offer, wanted),
+        Offered::Past => no_offer(1),
+    }
+}
+
+// The search for a request and an offer number, with room for the rows of the job's faces.
+fn search_with(job: &[u8], rows: &mut [Row], request: u32, number: u32) -> SearchResult
+    requires { ⌜ Room (now job) (now rows) ⌝ }
+    ensures { λ r. ⌜ LeadsTo (now (job .entry)) (answerCall (now (job .entry)) request number) r ⌝ }
+{
+    let mut families = [loading::NOWHERE; 64];
+    let walked = loading::load(job, &mut *rows, &mut families, request as usize);
+    if walked.refusal != 0 {
+        return no_offer(walked.refusal as u32);
+    }
+    if (request as usize) < walked.requests {
+        return search_request(job, walked, rows, &families, number as usize);
+    }
+    no_offer(28)
+}
+
+// The answer of a search. Its rows are gone before the face is read.
+fn answer_found(job: &[u8], found: SearchResult) -> Answer
+    requires { ⌜ (found .result ≡ 0 → Readable (now job) found) ⌝ }
+    ensures { λ r. ⌜ SearchAnswer (now (job .entry)) found r ⌝ }
+{
+    if found.result != 0 {
+        return without_offer(found.result);
+    }
+    let font = faces::offered_face(job, found.section, found.entry, found.number);
+    let offer = found.offer;
+    let wanted = found.wanted;
+    with_synthesis(offer, font, wanted)
+}
+
+// The answer where the job has few faces, whose rows are soon cleared.
+fn answer_few(job: &[u8], request: u32, number: u32) -> Answer
+    requires { ⌜ u16At (now job) 0 ≤ fewFaces ⌝ }
+    ensures { λ r. ⌜ r ≡ answerCall (now (job .entry)) request number ⌝ }
+{
+    let mut rows = [[0u32; COLUMNS]; 64];
+    answer_found(job, search_with(job, &mut rows, request, number))
+}
+
+fn answer_many(job: &[u8], request: u32, number: u32) -> Answer
+    ensures { λ r. ⌜ r ≡ answerCall (now (job .entry)) request number ⌝ }
+{
+    let mut rows = [[0u32; COLUMNS]; 256];
+    answer_found(job, search_with(job, &mut rows, request, number))
 }
 
 // The answer to a request and an offer number.
 pub fn offer_at(job: &[u8], request: u32, number: u32) -> Answer
     ensures { λ r. ⌜ r ≡ answerCall (now (job .entry)) request number ⌝ }
 {
-    let places = job::walk(job);
-    if places.refusal != 0 {
-        return without_offer(places.refusal as u32);
+    if tables::u16_at(job, 0) <= sizes::FEW_FACES {
+        return answer_few(job, request, number);
     }
-    let mut family_at = [0u32; 64];
-    let families = tables::u16_at(job, places.families) as usize;
-    let requests = located::load_families(job, places.families + 2, families, &mut family_at);
-    if (request as usize) < tables::u16_at(job, requests) as usize {
-        let at = located::request_at(job, requests + 2, request as usize);
-        return answer_request(
-            job,
-            places.overrides,
-            families,
-            &family_at,
-            at,
-            number as usize,
-        );
-    }
-    without_offer(28)
+    answer_many(job, request, number)
 }
 
 // The offer of a number of a request: 0 and the 40 bytes, 1 past the list, or a refusal.
 pub fn offer(job: &[u8], request: u32, number: u32, out: &mut [u8]) -> u32
     ensures { λ r. ⌜ Calls (offerCall (now (job .entry)) request number (now (out .entry))) r (now (out .exit)) ⌝ }
 {
-    if out.len() != 40 {
+    if out.len() != sizes::RECORD {
         return 16;
     }
     let answer = offer_at(job, request, number);

@@ -6,6 +6,7 @@ ghost use Rattle.query.specs.Fields.{half, ratio, value, spareWord, byte
 ghost use Rattle.query.specs.Entries.{readFace, readStyle, styleOrSpare, readGiven, readPair, readOverride, readFamily, readRequested, readRequest};
 use crate::fields;
 use crate::fields::At;
+use crate::sizes;
 use font::tables;
 
 // Held byte, length and font file.
@@ -162,30 +163,11 @@ fn face_number_run(job: &[u8], at: usize, count: usize, faces: u16) -> At
 pub(crate) fn family(job: &[u8], at: usize, faces: u16) -> At
     ensures { λ r. ⌜ r ≡ ended (readFamily faces (now (job .entry)) at) ⌝ }
 {
-    let count = fields::count(job, at, 64);
+    let count = fields::count(job, at, sizes::MOST_PLACES);
     if count.refusal != 0 {
         return count;
     }
     face_number_run(job, count.at, tables::u16_at(job, at) as usize, faces)
-}
-
-fn number_run(job: &[u8], at: usize, count: usize) -> At
-    ensures { λ r. ⌜ r ≡ ended (many count half (now (job .entry)) at) ⌝ }
-{
-    let mut place = at;
-    let mut left = count;
-    while 0 < left {
-        let next = fields::half(job, place);
-        if next.refusal != 0 {
-            return next;
-        }
-        place = next.at;
-        left -= 1;
-    }
-    At {
-        refusal: 0,
-        at: place,
-    }
 }
 
 // A byte count and 16-bit numbers.
@@ -196,7 +178,7 @@ pub(crate) fn numbers(job: &[u8], at: usize) -> At
     if count.refusal != 0 {
         return count;
     }
-    number_run(job, count.at, fields::byte_at(job, at) as usize)
+    fields::halves(job, count.at, fields::byte_at(job, at) as usize)
 }
 
 // Ratio, style and weight of a request.

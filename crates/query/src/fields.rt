@@ -1,12 +1,12 @@
 // The fields of a job. Each function takes the job and a position, and answers the refusal or the next position.
 ghost use mathlib.Core.Path.{_≡_};
-ghost use Prim.Native.Nat.{_+_};
+ghost use Prim.Native.Nat.{_+_, _^_, _≤_, _<_};
 ghost use lib.ListN.{length, getD};
 ghost use lib.Dec.{ltb};
 ghost use lib.Ieee.{binary32, ofBits};
 ghost use lib.Ieee.Scale.{finite};
 ghost use Rattle.font.specs.Single.{acceptedRatio};
-ghost use Rattle.query.specs.Reader.{ended};
+ghost use Rattle.query.specs.Reader.{ended, many};
 ghost use Rattle.query.specs.Fields.{fieldEnd, byte, half, word, ratio, value, count, heldByte, faceNumber, mask, kind, spareByte, spareWord, fontFile};
 use font::font::font_refusal;
 use font::single;
@@ -16,6 +16,13 @@ use font::tables;
 pub struct At {
     pub refusal: u8,
     pub at: usize,
+}
+
+// A 32-bit number, which its own type bounds.
+pub(crate) fn wide(x: u32) -> usize
+    ensures { λ r. ⌜ (r ≡ x) × (x < 2 ^ 32) ⌝ }
+{
+    x as usize
 }
 
 // The byte at a position, or 0 past the end.
@@ -70,6 +77,24 @@ pub(crate) fn word(job: &[u8], at: usize) -> At
     ensures { λ r. ⌜ r ≡ ended (word (now (job .entry)) at) ⌝ }
 {
     tested(job, at, 4, true, 0)
+}
+
+// `count` numbers of 16 bits, from a position in the job on. Nothing refuses one but the end.
+pub(crate) fn halves(job: &[u8], at: usize, count: usize) -> At
+    requires { ⌜ (at ≤ length (now job)) × (count < 65536) ⌝ }
+    ensures { λ r. ⌜ r ≡ ended (many count half (now (job .entry)) at) ⌝ }
+{
+    let fit = (job.len() - at) / 2;
+    if fit < count {
+        return At {
+            refusal: 18,
+            at: at + 2 * fit,
+        };
+    }
+    At {
+        refusal: 0,
+        at: at + 2 * count,
+    }
 }
 
 // Whether the bits are those of a number: no infinity and no NaN.

@@ -1,13 +1,16 @@
 // The job, and the check call.
 ghost use mathlib.Core.Path.{_≡_};
+ghost use Prim.Native.Nat.{_≤_};
+ghost use lib.ListN.{length};
+ghost use Rattle.query.specs.Sizes.{mostBytes};
 ghost use Rattle.query.specs.Job.{checkJob};
-ghost use Rattle.query.specs.Found.{Walks, placesOf};
+ghost use Rattle.query.specs.Positions.{endOf, Requested, SectionsAnswer, WalkAnswer};
 use crate::fields::At;
-use crate::sections;
+use crate::fields::wide;
+use crate::sections::Section;
+use crate::sections::read_section;
+use crate::sizes;
 use font::tables;
-
-// The most bytes that a job has.
-const LONGEST: usize = 16_777_216;
 
 // The refusal of a job and its field's position, or 0 and 0.
 pub struct Checked {
@@ -15,74 +18,98 @@ pub struct Checked {
     pub position: usize,
 }
 
-// The check call's answer, and where the sections of overrides and families begin; both are 0 in a refused job.
-pub(crate) struct Places {
+// How the walk through a job ended; and of an accepted job where its overrides begin, how many requests it has, and where
+// the asked one begins.
+pub(crate) struct Walked {
     pub refusal: u8,
     pub position: usize,
     pub overrides: usize,
-    pub families: usize,
+    pub requests: usize,
+    pub request: usize,
 }
 
-fn stopped(end: At) -> Places
-    ensures { λ r. ⌜ r ≡ record { refusal = end .refusal; position = end .at; overrides = 0; families = 0 } ⌝ }
+fn stopped(end: At) -> Walked
+    ensures { λ r. ⌜ endOf r ≡ end ⌝ }
 {
-    Places {
+    Walked {
         refusal: end.refusal,
         position: end.at,
         overrides: 0,
-        families: 0,
+        requests: 0,
+        request: 0,
     }
 }
 
-// The four sections, and nothing after them.
-fn whole(job: &[u8]) -> Places
-    ensures { λ r. ⌜ Walks (now (job .entry)) r ⌝ }
+// The requests, and nothing after them.
+fn requests(job: &[u8], at: usize, asked: usize) -> Walked
+    requires { ⌜ length (now job) ≤ mostBytes ⌝ }
+    ensures { λ r. ⌜ Requested (now (job .entry)) at asked r ⌝ }
 {
-    let faces = sections::faces(job, 0);
-    if faces.refusal != 0 {
-        return stopped(faces);
+    let mut place = [0u32; 1];
+    let end = read_section(job, at, Section::Requests, asked, &mut place);
+    if end.refusal != 0 {
+        return stopped(end);
     }
-    let count = tables::u16_at(job, 0);
-    let overrides = sections::overrides(job, faces.at, count);
-    if overrides.refusal != 0 {
-        return stopped(overrides);
-    }
-    let families = sections::families(job, overrides.at, count);
-    if families.refusal != 0 {
-        return stopped(families);
-    }
-    let requests = sections::requests(job, families.at);
-    if requests.refusal != 0 {
-        return stopped(requests);
-    }
-    if requests.at < job.len() {
+    let next = end.at;
+    if next < job.len() {
         return stopped(At {
             refusal: 27,
-            at: requests.at,
+            at: next,
         });
     }
-    Places {
+    Walked {
         refusal: 0,
-        position: requests.at,
-        overrides: faces.at,
-        families: overrides.at,
+        position: next,
+        overrides: 0,
+        requests: tables::u16_at(job, at) as usize,
+        request: wide(place[0]),
     }
 }
 
-// The first refusal of a job, reading left to right, with its field's position; or where an accepted job has its sections.
-pub(crate) fn walk(job: &[u8]) -> Places
-    ensures { λ r. ⌜ r ≡ placesOf (now (job .entry)) ⌝ }
+// The four sections, and nothing after them. The table gets the positions of the families, as far as it has room.
+fn whole(job: &[u8], families: &mut [u32], asked: usize) -> Walked
+    requires { ⌜ length (now job) ≤ mostBytes ⌝ }
+    ensures { λ r. ⌜ SectionsAnswer (now (job .entry)) r (now (families .entry)) (now (families .exit)) asked ⌝ }
 {
-    if LONGEST < job.len() {
+    let mut none = [0u32; 0];
+    let first = read_section(job, 0, Section::Faces, 0, &mut none);
+    if first.refusal != 0 {
+        return stopped(first);
+    }
+    let count = tables::u16_at(job, 0);
+    let second = read_section(job, first.at, Section::Overrides(count), 0, &mut none);
+    if second.refusal != 0 {
+        return stopped(second);
+    }
+    let third = read_section(job, second.at, Section::Families(count), 0, families);
+    if third.refusal != 0 {
+        return stopped(third);
+    }
+    let last = requests(job, third.at, asked);
+    Walked {
+        refusal: last.refusal,
+        position: last.position,
+        overrides: first.at,
+        requests: last.requests,
+        request: last.request,
+    }
+}
+
+// The first refusal of a job, reading left to right, with its field's position; or where an accepted job has its entries.
+pub(crate) fn walk(job: &[u8], families: &mut [u32], asked: usize) -> Walked
+    ensures { λ r. ⌜ WalkAnswer (now (job .entry)) r (now (families .entry)) (now (families .exit)) asked ⌝ }
+{
+    if sizes::MOST_BYTES < job.len() {
         return stopped(At { refusal: 17, at: 0 });
     }
-    let found = whole(job);
+    let found = whole(job, families, asked);
     if found.refusal == 0 {
-        return Places {
+        return Walked {
             refusal: 0,
             position: 0,
             overrides: found.overrides,
-            families: found.families,
+            requests: found.requests,
+            request: found.request,
         };
     }
     found
@@ -92,9 +119,10 @@ pub(crate) fn walk(job: &[u8]) -> Places
 pub fn check(job: &[u8]) -> Checked
     ensures { λ r. ⌜ r ≡ checkJob (now (job .entry)) ⌝ }
 {
-    let places = walk(job);
+    let mut families = [0u32; 0];
+    let walked = walk(job, &mut families, 0);
     Checked {
-        refusal: places.refusal,
-        position: places.position,
+        refusal: walked.refusal,
+        position: walked.position,
     }
 }

@@ -1,13 +1,15 @@
-// Jobs and offers: the job's layout and refusals, the check call, the offers of a request, the cursor, and the exported calls.
+// Jobs and offers: the job's layout and refusals, the check call, the offers of a request, and the cursor.
 pub mod answer;
 pub mod call;
 pub mod cursor;
 mod entries;
-pub mod export;
+mod faces;
+mod families;
 mod fields;
 pub mod job;
-mod load;
-mod located;
+mod loading;
 mod offers;
 mod record;
 mod sections;
+mod sizes;
+mod values;

@@ -3,6 +3,7 @@ ghost use mathlib.Core.Path.{_≡_};
 ghost use mathlib.Core.List.{[], _∷_, _++_};
 ghost use Prim.Native.Nat.{_+_, _^_, _≤_, _<_};
 ghost use lib.ListN.{length, take};
+ghost use Rattle.query.specs.Sizes.{recordSize};
 ghost use Rattle.query.specs.Layout.{bytes16, bytes32};
 ghost use Rattle.query.specs.Record.{flag, twosComplement, valueBits, headBytes, slotBytes, indexBytes, recordBytes};
 use crate::answer::Offer;
@@ -61,7 +62,7 @@ fn value_bits(x: f32) -> u32
 
 // The offer's family and place, emboldening, skew, and how many settings follow.
 fn put_head(out: &mut [u8], offer: Offer, embolden: bool, skew: i8, count: u8)
-    requires { ⌜ length (now out) ≡ 40 ⌝ }
+    requires { ⌜ length (now out) ≡ recordSize ⌝ }
     ensures { λ _. ⌜ take 8 (now (out .exit)) ≡ headBytes offer embolden skew count ⌝ }
 {
     put_half(&mut *out, 0, offer.family);
@@ -88,8 +89,8 @@ fn put_slot(out: &mut [u8], at: usize, used: bool, tag: u32, value: f32)
 
 // The charmap index, at the end.
 fn put_index(out: &mut [u8], index: CharmapIndex)
-    requires { ⌜ (length (now out) ≡ 40) × (index .«subtable_offset» < 2 ^ 32) ⌝ }
-    ensures { λ _. ⌜ take 40 (now (out .exit)) ≡ take 32 (now (out .entry)) ++ indexBytes index ⌝ }
+    requires { ⌜ (length (now out) ≡ recordSize) × (index .«subtable_offset» < 2 ^ 32) ⌝ }
+    ensures { λ _. ⌜ take recordSize (now (out .exit)) ≡ take 32 (now (out .entry)) ++ indexBytes index ⌝ }
 {
     put_word(&mut *out, 32, index.subtable_offset as u32);
     put_byte(&mut *out, 36, flag(index.is_symbol));
@@ -99,7 +100,7 @@ fn put_index(out: &mut [u8], index: CharmapIndex)
 
 // The record of an offer. A slot past the count of settings is zero.
 pub(crate) fn write_record(out: &mut [u8], offer: Offer, synthesis: Synthesis, index: CharmapIndex)
-    requires { ⌜ (length (now out) ≡ 40) × (index .«subtable_offset» < 2 ^ 32) ⌝ }
+    requires { ⌜ (length (now out) ≡ recordSize) × (index .«subtable_offset» < 2 ^ 32) ⌝ }
     ensures { λ _. ⌜ now (out .exit) ≡ recordBytes offer synthesis index ⌝ }
 {
     let count = synthesis.len;

@@ -1,25 +1,86 @@
-// The four sections of a job. Each function takes the job and the section's position, and answers the refusal or the next position.
+// The four sections of a job, each after a 16-bit count.
 ghost use mathlib.Core.Path.{_≡_};
+ghost use Prim.Native.Nat.{_-_, _^_, _≤_, _<_};
+ghost use lib.ListN.{length};
+ghost use Rattle.query.specs.Sizes.{mostBytes};
 ghost use Rattle.query.specs.Reader.{ended, many};
 ghost use Rattle.query.specs.Fields.{counted};
-ghost use Rattle.query.specs.Entries.{readFace, readOverride, readFamily, readRequest};
+ghost use Rattle.query.specs.Sections.{readEntry, limitOf};
+ghost use Rattle.query.specs.Positions.{NotesAt, NotedRun, NotedSection, KeptFrom};
 use crate::entries;
 use crate::fields;
 use crate::fields::At;
+use crate::sizes;
 use font::tables;
 
-fn face_run(job: &[u8], at: usize, count: usize) -> At
-    ensures { λ r. ⌜ r ≡ ended (many count readFace (now (job .entry)) at) ⌝ }
+// A section. Overrides and families are told how many faces the job has.
+pub(crate) enum Section {
+    Faces,
+    Overrides(u16),
+    Families(u16),
+    Requests,
+}
+
+fn limit(section: Section) -> u16
+    ensures { λ r. ⌜ r ≡ limitOf section ⌝ }
+{
+    match section {
+        Section::Faces => sizes::MOST_FACES,
+        Section::Overrides(_) => sizes::MOST_OVERRIDES,
+        Section::Families(_) => sizes::MOST_FAMILIES,
+        Section::Requests => sizes::MOST_REQUESTS,
+    }
+}
+
+// An entry of the section: the refusal, or the next position.
+fn entry(job: &[u8], at: usize, section: Section) -> At
+    ensures { λ r. ⌜ r ≡ ended (readEntry section (now (job .entry)) at) ⌝ }
+{
+    match section {
+        Section::Faces => entries::face(job, at),
+        Section::Overrides(faces) => entries::override_entry(job, at, faces),
+        Section::Families(faces) => entries::family(job, at, faces),
+        Section::Requests => entries::request(job, at),
+    }
+}
+
+// Notes the position of the i-th entry in a table of those from `first` on, if it has room for it.
+fn note(table: &mut [u32], first: usize, i: usize, place: usize)
+    requires { ⌜ place < 2 ^ 32 ⌝ }
+    ensures { λ _. ⌜ NotesAt first i place (now (table .entry)) (now (table .exit)) ⌝ }
+{
+    if first <= i {
+        let k = i - first;
+        if k < table.len() {
+            table[k] = place as u32;
+        }
+    }
+}
+
+// `count` entries of the section. The table gets the positions of those from `first` on, as far as it has room.
+fn entry_run(
+    job: &[u8],
+    at: usize,
+    count: usize,
+    section: Section,
+    first: usize,
+    table: &mut [u32],
+) -> At
+    requires { ⌜ length (now job) ≤ mostBytes ⌝ }
+    ensures { λ r. ⌜ r ≡ ended (many count (readEntry section) (now (job .entry)) at) ⌝ }
+    ensures { λ _. ⌜ NotedRun (readEntry section) (now (job .entry)) at count first (now (table .exit)) ⌝ }
+    ensures { λ _. ⌜ KeptFrom (count - first) (now (table .entry)) (now (table .exit)) ⌝ }
 {
     let mut place = at;
-    let mut faces_left = count;
-    while 0 < faces_left {
-        let next = entries::face(job, place);
+    let mut i: usize = 0;
+    while i < count {
+        let next = entry(job, place, section);
         if next.refusal != 0 {
             return next;
         }
+        note(&mut *table, first, i, place);
         place = next.at;
-        faces_left -= 1;
+        i += 1;
     }
     At {
         refusal: 0,
@@ -27,103 +88,22 @@ fn face_run(job: &[u8], at: usize, count: usize) -> At
     }
 }
 
-// Faces, to 256.
-pub(crate) fn faces(job: &[u8], at: usize) -> At
-    ensures { λ r. ⌜ r ≡ ended (counted 256 readFace (now (job .entry)) at) ⌝ }
+// A section at a position: the refusal, or the next position, with the positions of its entries as `entry_run` has them.
+pub(crate) fn read_section(
+    job: &[u8],
+    at: usize,
+    section: Section,
+    first: usize,
+    table: &mut [u32],
+) -> At
+    requires { ⌜ length (now job) ≤ mostBytes ⌝ }
+    ensures { λ r. ⌜ r ≡ ended (counted (limitOf section) (readEntry section) (now (job .entry)) at) ⌝ }
+    ensures { λ _. ⌜ NotedSection section (now (job .entry)) at first (now (table .entry)) (now (table .exit)) ⌝ }
 {
-    let count = fields::count(job, at, 256);
+    let count = fields::count(job, at, limit(section));
     if count.refusal != 0 {
         return count;
     }
-    face_run(job, count.at, tables::u16_at(job, at) as usize)
-}
-
-fn override_run(job: &[u8], at: usize, count: usize, faces: u16) -> At
-    ensures { λ r. ⌜ r ≡ ended (many count (readOverride faces) (now (job .entry)) at) ⌝ }
-{
-    let mut place = at;
-    let mut left = count;
-    while 0 < left {
-        let next = entries::override_entry(job, place, faces);
-        if next.refusal != 0 {
-            return next;
-        }
-        place = next.at;
-        left -= 1;
-    }
-    At {
-        refusal: 0,
-        at: place,
-    }
-}
-
-// Overrides, to 256.
-pub(crate) fn overrides(job: &[u8], at: usize, faces: u16) -> At
-    ensures { λ r. ⌜ r ≡ ended (counted 256 (readOverride faces) (now (job .entry)) at) ⌝ }
-{
-    let count = fields::count(job, at, 256);
-    if count.refusal != 0 {
-        return count;
-    }
-    override_run(job, count.at, tables::u16_at(job, at) as usize, faces)
-}
-
-fn family_run(job: &[u8], at: usize, count: usize, faces: u16) -> At
-    ensures { λ r. ⌜ r ≡ ended (many count (readFamily faces) (now (job .entry)) at) ⌝ }
-{
-    let mut place = at;
-    let mut left = count;
-    while 0 < left {
-        let next = entries::family(job, place, faces);
-        if next.refusal != 0 {
-            return next;
-        }
-        place = next.at;
-        left -= 1;
-    }
-    At {
-        refusal: 0,
-        at: place,
-    }
-}
-
-// Families, to 64.
-pub(crate) fn families(job: &[u8], at: usize, faces: u16) -> At
-    ensures { λ r. ⌜ r ≡ ended (counted 64 (readFamily faces) (now (job .entry)) at) ⌝ }
-{
-    let count = fields::count(job, at, 64);
-    if count.refusal != 0 {
-        return count;
-    }
-    family_run(job, count.at, tables::u16_at(job, at) as usize, faces)
-}
-
-fn request_run(job: &[u8], at: usize, count: usize) -> At
-    ensures { λ r. ⌜ r ≡ ended (many count readRequest (now (job .entry)) at) ⌝ }
-{
-    let mut place = at;
-    let mut left = count;
-    while 0 < left {
-        let next = entries::request(job, place);
-        if next.refusal != 0 {
-            return next;
-        }
-        place = next.at;
-        left -= 1;
-    }
-    At {
-        refusal: 0,
-        at: place,
-    }
-}
-
-// Requests, to 256.
-pub(crate) fn requests(job: &[u8], at: usize) -> At
-    ensures { λ r. ⌜ r ≡ ended (counted 256 readRequest (now (job .entry)) at) ⌝ }
-{
-    let count = fields::count(job, at, 256);
-    if count.refusal != 0 {
-        return count;
-    }
-    request_run(job, count.at, tables::u16_at(job, at) as usize)
+    let entries = tables::u16_at(job, at) as usize;
+    entry_run(job, count.at, entries, section, first, table)
 }

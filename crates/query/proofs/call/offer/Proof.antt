@@ -1,6 +1,7 @@
--- `query::call::offer` meets its contract: a law of `Calls` for each answer.
+-- `query::call::offer` meets its contract: a law of `AnswerCases` for each answer.
 -- Assumes nothing.
-use Rattle.query.proofs.Calls.{wrong-length, index-below, record-written, nothing-written}
+use native.Mathlib.Omega.{arith}
+use Rattle.query.proofs.AnswerCases.{wrong-length, index-below, record-written, nothing-written}
 use borrow.Author.Needs.{needs}
 use Rattle.query.proofs.call.offer.Statement.{statement}
 use Rattle.query.proofs.call.offer.Tie as tie
@@ -12,16 +13,22 @@ offer-at-requires : tie.Need-offer-at-requires
 offer-at-requires c κs = search needs
 
 write-record-requires : tie.Need-write-record-requires
-write-record-requires c κs = (c .before .before .before .if1 .left, index-below _ _ _ _ (c .before .before .offer-at .ensures))
+write-record-requires c κs =
+    let answer = c .before .before in
+    let bytes = answer .before .before .before .shared-slice-known in
+    (answer .before .if1 .left, index-below _ (λ i. omega (arith, bytes .given i)) _ _ (answer .offer-at .ensures))
 
 same-length : tie.Need-same-length
 same-length c = search needs
 
 returns-2 : tie.Need-returns-2
-returns-2 c = record-written _ _ _ _ (c .before .before .before .before .before .before .if1 .left) _ (c .before .before .before .before .before .offer-at .ensures) (c .before .before .before .before .if2 .taken) _ (c .before .before .write-record .ensures)
+returns-2 c =
+    let offer = c .before .before .before .before in
+    let answer = offer .before in
+    record-written _ _ _ _ (answer .before .if1 .left) (answer .offer-at .ensures) (offer .if2 .taken) (c .before .before .write-record .ensures)
 
 returns-3 : tie.Need-returns-3
-returns-3 c = nothing-written _ _ _ _ (c .before .before .if1 .left) _ (c .before .offer-at .ensures) (c .if2 .left)
+returns-3 c = nothing-written _ _ _ _ (c .before .before .if1 .left) (c .before .offer-at .ensures) (c .if2 .left)
 
 pub offer-spec : {M : Type 1} → statement M
 offer-spec =

@@ -1,6 +1,6 @@
 -- `query::fields::finite_bits` meets its contract.
 -- Assumes nothing.
-use Rattle.query.proofs.Singles.{bits-finite}
+use Rattle.font.proofs.FiniteBits.{bits-finite}
 use Rattle.query.proofs.fields.finite_bits.Statement.{statement}
 use Rattle.query.proofs.fields.finite_bits.Tie as tie
 

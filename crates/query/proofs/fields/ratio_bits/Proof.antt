@@ -1,7 +1,7 @@
 -- `query::fields::ratio_bits` meets its contract: a pattern that is not finite is no ratio.
 -- Assumes nothing.
 use mathlib.Core.Path.{sym, _∙_}
-use Rattle.query.proofs.Singles.{finite-no-nan, ratio-finite}
+use Rattle.font.proofs.FiniteBits.{finite-no-nan, ratio-finite}
 use borrow.Author.Needs.{needs}
 use Rattle.query.proofs.fields.ratio_bits.Statement.{statement}
 use Rattle.query.proofs.fields.ratio_bits.Tie as tie

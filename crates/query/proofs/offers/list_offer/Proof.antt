@@ -1,48 +1,84 @@
--- `query::offers::list_offer` meets its contract: the loop has passed the families before `k`, and `left` is what is left of the number. Assumes nothing.
-use Prim.Native.Nat.{_+_, _-_, _≤_}
+-- The invariant: the families before `k` are passed, and `left` is what is left of the number.
+use Prim.Native.Nat.{ℕ, _+_, _-_, _≤_}
 use mathlib.Core.Path.{_≡_, refl, sym, _∙_, ap}
+use mathlib.Core.List.{List}
 use native.Mathlib.Omega.{arith}
-use borrow.Author.Needs.{needs}
 use lib.ListN.{drop}
 use denote.Ref.{now}
-use Rattle.query.specs.Offers.{facesOfLists, familiesAt, offerOf, listAt}
-use Rattle.query.proofs.Gathered.{list-length, list-number}
-use Rattle.query.proofs.Turns.{turns, after-one, one-more, no-more}
+use Rattle.query.specs.declared.offers.FamilyOffer.{FamilyOffer}
+use Rattle.query.specs.declared.offers.ListOffer.{ListOffer}
+use Rattle.query.specs.Job.{jobOf}
+use Rattle.query.specs.View.{viewOf}
+use Rattle.query.specs.Values.{listAt}
+use Rattle.query.specs.Offers.{offerOf}
+use Rattle.query.specs.Listed.{Counted}
+use Rattle.query.proofs.Turns.{list-length, list-number, turns, after-one, one-more, no-more}
+use borrow.Author.Needs.{needs}
 use Rattle.query.proofs.offers.list_offer.Statement.{statement}
 use Rattle.query.proofs.offers.list_offer.Tie as tie
 
 abbrev Inv-loop : tie.InvT-loop
-Inv-loop job at family-at families percents styles weights ratios slants held request n count left₀ k₀ left k =
+Inv-loop job at rows families counts₀ request n count left₀ k₀ counts left k =
     (k ≤ count)
-    × (turns (facesOfLists percents styles weights ratios slants held) (familiesAt job family-at families) request (listAt job at) n
-    ≡ turns (facesOfLists percents styles weights ratios slants held) (familiesAt job family-at families) request (drop k (listAt job at)) left)
+    × Counted job request counts
+    × (turns (viewOf (jobOf job)) request (listAt job at) n ≡ turns (viewOf (jobOf job)) request (drop k (listAt job at)) left)
 
 abbrev μ-loop : tie.MeasureT-loop
-μ-loop job at family-at families percents styles weights ratios slants held request n count left₀ k₀ left k = count - k
+μ-loop job at rows families counts₀ request n count left₀ k₀ counts left k = count - k
 
-shared-slice-read-count : tie.Need-shared-slice-read-count Inv-loop μ-loop
-shared-slice-read-count c = omega arith
+abbrev Start : Type 0
+Start = tie.Start Inv-loop μ-loop
+
+-- the list, and what its offers answer; and what follows the answer of one family
+abbrev list : Start → List ℕ
+list c = listAt (now (c .args .job)) (c .args .at)
+
+abbrev answer : Start → List ℕ → ℕ → ListOffer
+answer c = turns (viewOf (jobOf (now (c .args .job)))) (c .args .request)
+
+abbrev after : Start → ℕ → List ℕ → FamilyOffer → ListOffer
+after c = after-one (viewOf (jobOf (now (c .args .job)))) (c .args .request)
+
+abbrev start : tie.After-number-offer Inv-loop μ-loop → Start
+start c = c .before .before .before .before .before .before .before
+
+stepped : (c : tie.After-number-offer Inv-loop μ-loop)
+    → answer (start c) (list (start c)) (start c .args .n)
+    ≡ after (start c) (c .before .before .u16-at .result) (drop (c .before .before .before .before .loop .k + 1) (list (start c))) (c .number-offer .result)
+stepped c =
+    let a = start c .args in
+    let l = c .before .before .before .before .loop in
+    let f = c .before .before .u16-at in
+    let numbers = list-length (now (a .job)) (a .at) in
+    l .inv .2
+    ∙ one-more (viewOf (jobOf (now (a .job)))) (a .request) (list (start c)) (l .k) (f .result) (l .left) (c .number-offer .result)
+    (omega arith)
+    (f .ensures ∙ sym (list-number (now (a .job)) (a .at) (l .k) (omega arith)))
+    (c .number-offer .ensures .0)
+
+byte-at-requires : tie.Need-byte-at-requires Inv-loop μ-loop
+byte-at-requires c κs = search needs
 
 cast-count : tie.Need-cast-count Inv-loop μ-loop
-cast-count c = omega (arith, c .shared-slice-known2 .given (c .before .before .args .at))
+cast-count c = search needs
 
 loop-holds : tie.Need-loop-holds Inv-loop μ-loop
-loop-holds c = (omega arith, refl)
+loop-holds c = (omega arith, c .before .before .pre .2, refl)
 
 add-u16-at : tie.Need-add-u16-at Inv-loop μ-loop
-add-u16-at c = omega (arith, c .before .before .shared-slice-known2 .given (c .before .before .before .before .args .at))
+add-u16-at c = search needs
 
 mul-u16-at : tie.Need-mul-u16-at Inv-loop μ-loop
-mul-u16-at c = omega (arith, c .before .before .shared-slice-known2 .given (c .before .before .before .before .args .at))
+mul-u16-at c = search needs
 
 add-u16-at-2 : tie.Need-add-u16-at-2 Inv-loop μ-loop
-add-u16-at-2 c = omega (arith, c .before .before .shared-slice-known2 .given (c .before .before .before .before .args .at))
+add-u16-at-2 c = search needs
 
 u16-at-requires : tie.Need-u16-at-requires Inv-loop μ-loop
 u16-at-requires c κs = search needs
 
 number-offer-requires : tie.Need-number-offer-requires Inv-loop μ-loop
-number-offer-requires c κs = c .before .before .before .before .before .pre .1
+number-offer-requires c κs = (c .before .before .before .before .before .before .pre .1, c .before .before .before .loop .inv .1)
 
 enum-known-place : tie.Need-enum-known-place Inv-loop μ-loop
 enum-known-place c = search needs
@@ -50,49 +86,29 @@ enum-known-place c = search needs
 returns : tie.Need-returns Inv-loop μ-loop
 unfolding offerOf
 returns c =
-    let a = c .before .before .before .before .before .before .before .before .before .args in
-    let s = listAt (now (a .job)) (a .at) in
-    let k = c .before .before .before .before .before .before .loop .k in
-    let f = c .before .before .before .before .u16-at .result in
-    sym
-    (c .before .before .before .before .before .before .loop .inv .1
-    ∙ one-more (facesOfLists (now (a .percents)) (now (a .styles)) (now (a .weights)) (now (a .ratios)) (now (a .slants)) (now (a .held)))
-    (familiesAt (now (a .job)) (now (a .family-at)) (a .families)) (a .request) s k f (c .before .before .before .before .before .before .loop .left) (c .before .before .before .number-offer .result)
-    (omega (arith, list-length (now (a .job)) (a .at))) (c .before .before .before .before .u16-at .ensures ∙ sym (list-number (now (a .job)) (a .at) k (c .before .before .before .before .before .loop-test .taken))) (c .before .before .before .number-offer .ensures)
-    ∙ ap (after-one (facesOfLists (now (a .percents)) (now (a .styles)) (now (a .weights)) (now (a .ratios)) (now (a .slants)) (now (a .held)))
-    (familiesAt (now (a .job)) (now (a .family-at)) (a .families)) (a .request) f (drop (k + 1) s)) (c .before .place .given .1))
+    let b = c .before .before .before in
+    (sym (stepped b ∙ ap (after (start b) _ _) (c .before .place .given .1)), b .number-offer .ensures .1)
 
 enum-known-past : tie.Need-enum-known-past Inv-loop μ-loop
 enum-known-past c = search needs
 
 add-k : tie.Need-add-k Inv-loop μ-loop
-add-k c = omega (arith, c .before .before .before .before .before .before .before .shared-slice-known2 .given (c .before .before .before .before .before .before .before .before .before .args .at))
+add-k c = search needs
 
 loop-less : tie.Need-loop-less Inv-loop μ-loop
-loop-less c = omega arith
+loop-less c = search needs
 
 loop-again : tie.Need-loop-again Inv-loop μ-loop
 loop-again c =
-    let a = c .before .before .before .before .before .before .before .before .before .args in
-    let s = listAt (now (a .job)) (a .at) in
-    let k = c .before .before .before .before .before .before .loop .k in
-    let f = c .before .before .before .before .u16-at .result in (
-      omega arith,
-      c .before .before .before .before .before .before .loop .inv .1
-          ∙ one-more (facesOfLists (now (a .percents)) (now (a .styles)) (now (a .weights)) (now (a .ratios)) (now (a .slants)) (now (a .held)))
-          (familiesAt (now (a .job)) (now (a .family-at)) (a .families)) (a .request) s k f (c .before .before .before .before .before .before .loop .left) (c .before .before .before .number-offer .result)
-          (omega (arith, list-length (now (a .job)) (a .at))) (c .before .before .before .before .u16-at .ensures ∙ sym (list-number (now (a .job)) (a .at) k (c .before .before .before .before .before .loop-test .taken))) (c .before .before .before .number-offer .ensures)
-          ∙ ap (after-one (facesOfLists (now (a .percents)) (now (a .styles)) (now (a .weights)) (now (a .ratios)) (now (a .slants)) (now (a .held)))
-          (familiesAt (now (a .job)) (now (a .family-at)) (a .families)) (a .request) f (drop (k + 1) s)) (c .before .past .given .1),
-    )
+    let b = c .before .before .before in
+    (omega arith, b .number-offer .ensures .1, stepped b ∙ ap (after (start b) _ _) (c .before .past .given .1))
 
 returns-2 : tie.Need-returns-2 Inv-loop μ-loop
 returns-2 c =
-    let a = c .before .before .before .before .args in
-    sym
-    (c .before .loop .inv .1
-    ∙ no-more (facesOfLists (now (a .percents)) (now (a .styles)) (now (a .weights)) (now (a .ratios)) (now (a .slants)) (now (a .held)))
-    (familiesAt (now (a .job)) (now (a .family-at)) (a .families)) (a .request) (listAt (now (a .job)) (a .at)) (c .before .loop .k) (c .before .loop .left) (omega (arith, list-length (now (a .job)) (a .at))))
+    let s = c .before .before .before .before in
+    let l = c .before .loop in
+    let numbers = list-length (now (s .args .job)) (s .args .at) in
+    (sym (l .inv .2 ∙ no-more (viewOf (jobOf (now (s .args .job)))) (s .args .request) (list s) (l .k) (l .left) (omega arith)), l .inv .1)
 
 pub list-offer-spec : {M : Type 1} → statement M
 list-offer-spec =
@@ -100,7 +116,7 @@ list-offer-spec =
     (tie.spec
     Inv-loop
     μ-loop
-    shared-slice-read-count
+    byte-at-requires
     cast-count
     loop-holds
     add-u16-at

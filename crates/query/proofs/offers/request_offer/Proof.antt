@@ -1,38 +1,75 @@
--- `query::offers::request_offer` meets its contract: the fallbacks follow the families, and the list is cut. Assumes nothing.
-use mathlib.Core.Path.{sym, _∙_, ap}
+-- The fallbacks follow the families, and the list is cut.
+use Prim.Native.Nat.{ℕ, _+_}
+use mathlib.Core.Path.{_≡_, sym, _∙_, ap}
+use mathlib.Core.List.{List}
 use native.Mathlib.Omega.{arith}
 use denote.Ref.{now}
-use Rattle.query.specs.Offers.{facesOfLists, familiesAt, listAt, fallbacksAt}
+use Rattle.font.specs.Tables.{u16At}
+use Rattle.query.specs.declared.offers.ListOffer.{ListOffer}
+use Rattle.query.specs.declared.offers.Offered.{Offered}
+use Rattle.query.specs.Sizes.{requestHead}
+use Rattle.query.specs.Job.{jobOf}
+use Rattle.query.specs.View.{viewOf}
+use Rattle.query.specs.Offers.{offerAt}
+use Rattle.query.specs.Values.{listAt, listEnd, requestAt}
+use Rattle.query.specs.Listed.{listedAt}
+use Rattle.query.proofs.RowFamilies.{none-counted}
 use Rattle.query.proofs.Turns.{after-all, after-named, cut-off, not-cut}
 use borrow.Author.Needs.{needs}
 use Rattle.query.proofs.offers.request_offer.Statement.{statement}
 use Rattle.query.proofs.offers.request_offer.Tie as tie
 
+-- the request's lists; what is asked; and what follows the answer of its families
+abbrev named : tie.Start → List ℕ
+named c = listAt (now (c .args .job)) (c .args .at + requestHead)
+
+abbrev fallbacks : tie.Start → List ℕ
+fallbacks c = listAt (now (c .args .job)) (listEnd (now (c .args .job)) (c .args .at + requestHead))
+
+abbrev asked : tie.Start → Offered
+asked c = offerAt (listedAt (now (c .args .job)) (c .args .at) (c .args .request)) (c .args .n)
+
+abbrev after : tie.Start → ListOffer → Offered
+after c = after-named (viewOf (jobOf (now (c .args .job)))) (c .args .request) (fallbacks c)
+
+-- the families have answered
+named-answered : (c : tie.After-list-offer) → after (c .before .before .before .before .before) (c .list-offer .result) ≡ asked (c .before .before .before .before .before)
+unfolding listedAt requestAt
+named-answered c =
+    let s = c .before .before .before .before .before in
+    let a = s .args in
+    ap (after s) (c .list-offer .ensures .0)
+    ∙ not-cut (viewOf (jobOf (now (a .job)))) (a .request) (u16At (now (a .job)) (a .at)) (named s) (fallbacks s) (a .n) (omega arith)
+
+-- and the fallbacks
+abbrev start : tie.After-list-offer2 → tie.Start
+start c = c .before .before .before .before .before .before .before .before .before .before .before
+
+all-answered : (c : tie.After-list-offer2) → after-all (c .list-offer2 .result) ≡ asked (start c)
+unfolding listEnd
+all-answered c =
+    ap after-all (rw (c .before .before .byte-at .ensures) at (c .list-offer2 .ensures .0))
+    ∙ ap (after (start c)) (sym (c .before .before .before .before .left .given .1))
+    ∙ named-answered (c .before .before .before .before .before .before)
+
+u16-at-requires : tie.Need-u16-at-requires
+u16-at-requires c κs = search needs
+
+cast-most : tie.Need-cast-most
+cast-most c = search needs
+
 returns : tie.Need-returns
+unfolding listedAt requestAt
 returns c =
-    let a = c .before .before .args in
-    let named = listAt (now (a .job)) (a .at) in
-    let fallbacks = listAt (now (a .job)) (fallbacksAt (now (a .job)) (a .at)) in
-    cut-off (facesOfLists (now (a .percents)) (now (a .styles)) (now (a .weights)) (now (a .ratios)) (now (a .slants)) (now (a .held)))
-    (familiesAt (now (a .job)) (now (a .family-at)) (a .families)) (a .request) (a .most) named fallbacks (a .n) (c .if1 .taken)
+    let s = c .before .before .before in
+    let a = s .args in
+    cut-off (viewOf (jobOf (now (a .job)))) (a .request) (u16At (now (a .job)) (a .at)) (named s) (fallbacks s) (a .n) (omega arith)
 
-add-fallbacks : tie.Need-add-fallbacks
-add-fallbacks c = search needs
-
-shared-slice-read-fallbacks : tie.Need-shared-slice-read-fallbacks
-shared-slice-read-fallbacks c = search needs
-
-cast-fallbacks : tie.Need-cast-fallbacks
-cast-fallbacks c = omega (arith, c .shared-slice-known2 .given (c .before .before .before .args .at))
-
-mul-fallbacks : tie.Need-mul-fallbacks
-mul-fallbacks c = omega (arith, c .shared-slice-known2 .given (c .before .before .before .args .at))
-
-add-fallbacks-2 : tie.Need-add-fallbacks-2
-add-fallbacks-2 c = omega (arith, c .shared-slice-known2 .given (c .before .before .before .args .at))
+add-named : tie.Need-add-named
+add-named c = search needs
 
 list-offer-requires : tie.Need-list-offer-requires
-list-offer-requires c κs = search needs
+list-offer-requires c κs = (omega arith, c .before .before .before .before .pre .1, none-counted _ _)
 
 enum-known-offer : tie.Need-enum-known-offer
 enum-known-offer c = search needs
@@ -40,9 +77,23 @@ enum-known-offer c = search needs
 enum-known-left : tie.Need-enum-known-left
 enum-known-left c = search needs
 
+add-fallbacks : tie.Need-add-fallbacks
+add-fallbacks c = search needs
+
+byte-at-requires : tie.Need-byte-at-requires
+byte-at-requires c κs = search needs
+
+cast-fallbacks : tie.Need-cast-fallbacks
+cast-fallbacks c = search needs
+
+mul-fallbacks : tie.Need-mul-fallbacks
+mul-fallbacks c = search needs
+
+add-fallbacks-2 : tie.Need-add-fallbacks-2
+add-fallbacks-2 c = search needs
+
 list-offer-requires-2 : tie.Need-list-offer-requires-2
-unfolding fallbacksAt
-list-offer-requires-2 c κs = (c .before .before .before .before .before .before .before .pre .1, c .before .before .before .before .before .before .before .pre .2)
+list-offer-requires-2 c κs = search needs
 
 enum-known-offer-2 : tie.Need-enum-known-offer-2
 enum-known-offer-2 c = search needs
@@ -52,53 +103,31 @@ enum-told c = search needs
 
 returns-2 : tie.Need-returns-2
 returns-2 c =
-    let a = c .before .before .before .before .before .before .before .args in
-    let named = listAt (now (a .job)) (a .at) in
-    let fallbacks = listAt (now (a .job)) (fallbacksAt (now (a .job)) (a .at)) in
-    ap (after-named (facesOfLists (now (a .percents)) (now (a .styles)) (now (a .weights)) (now (a .ratios)) (now (a .slants)) (now (a .held)))
-    (familiesAt (now (a .job)) (now (a .family-at)) (a .families)) (a .request) fallbacks) (sym (c .before .offer .given .1) ∙ c .before .before .before .list-offer .ensures)
-    ∙ not-cut (facesOfLists (now (a .percents)) (now (a .styles)) (now (a .weights)) (now (a .ratios)) (now (a .slants)) (now (a .held)))
-    (familiesAt (now (a .job)) (now (a .family-at)) (a .families)) (a .request) (a .most) named fallbacks (a .n) (c .before .before .before .before .before .if1 .left)
+    let b = c .before .before .before in
+    ap (after (b .before .before .before .before .before)) (sym (c .before .offer .given .1)) ∙ named-answered b
 
 returns-3 : tie.Need-returns-3
-unfolding fallbacksAt
-returns-3 c =
-    let a = c .before .before .before .before .before .before .before .before .before .before .before .args in
-    let named = listAt (now (a .job)) (a .at) in
-    let fallbacks = listAt (now (a .job)) (fallbacksAt (now (a .job)) (a .at)) in
-    ap (after-all (facesOfLists (now (a .percents)) (now (a .styles)) (now (a .weights)) (now (a .ratios)) (now (a .slants)) (now (a .held)))
-    (familiesAt (now (a .job)) (now (a .family-at)) (a .families)) (a .request)) (sym (c .before .offer2 .given .1) ∙ c .before .before .before .list-offer2 .ensures)
-    ∙ ap (after-named (facesOfLists (now (a .percents)) (now (a .styles)) (now (a .weights)) (now (a .ratios)) (now (a .slants)) (now (a .held)))
-    (familiesAt (now (a .job)) (now (a .family-at)) (a .families)) (a .request) fallbacks) (sym (c .before .before .before .before .before .left .given .1) ∙ c .before .before .before .before .before .before .before .list-offer .ensures)
-    ∙ not-cut (facesOfLists (now (a .percents)) (now (a .styles)) (now (a .weights)) (now (a .ratios)) (now (a .slants)) (now (a .held)))
-    (familiesAt (now (a .job)) (now (a .family-at)) (a .families)) (a .request) (a .most) named fallbacks (a .n) (c .before .before .before .before .before .before .before .before .before .if1 .left)
+returns-3 c = ap after-all (sym (c .before .offer2 .given .1)) ∙ all-answered (c .before .before .before)
 
 returns-4 : tie.Need-returns-4
-unfolding fallbacksAt
-returns-4 c =
-    let a = c .before .before .before .before .before .before .before .before .before .before .args in
-    let named = listAt (now (a .job)) (a .at) in
-    let fallbacks = listAt (now (a .job)) (fallbacksAt (now (a .job)) (a .at)) in
-    ap (after-all (facesOfLists (now (a .percents)) (now (a .styles)) (now (a .weights)) (now (a .ratios)) (now (a .slants)) (now (a .held)))
-    (familiesAt (now (a .job)) (now (a .family-at)) (a .families)) (a .request)) (sym (c .enum-told .given .1) ∙ c .before .before .list-offer2 .ensures)
-    ∙ ap (after-named (facesOfLists (now (a .percents)) (now (a .styles)) (now (a .weights)) (now (a .ratios)) (now (a .slants)) (now (a .held)))
-    (familiesAt (now (a .job)) (now (a .family-at)) (a .families)) (a .request) fallbacks) (sym (c .before .before .before .before .left .given .1) ∙ c .before .before .before .before .before .before .list-offer .ensures)
-    ∙ not-cut (facesOfLists (now (a .percents)) (now (a .styles)) (now (a .weights)) (now (a .ratios)) (now (a .slants)) (now (a .held)))
-    (familiesAt (now (a .job)) (now (a .family-at)) (a .families)) (a .request) (a .most) named fallbacks (a .n) (c .before .before .before .before .before .before .before .before .if1 .left)
+returns-4 c = ap after-all (sym (c .enum-told .given .1)) ∙ all-answered (c .before .before)
 
 pub request-offer-spec : {M : Type 1} → statement M
 request-offer-spec =
     tie.close
     (tie.spec
+    u16-at-requires
+    cast-most
     returns
-    add-fallbacks
-    shared-slice-read-fallbacks
-    cast-fallbacks
-    mul-fallbacks
-    add-fallbacks-2
+    add-named
     list-offer-requires
     enum-known-offer
     enum-known-left
+    add-fallbacks
+    byte-at-requires
+    cast-fallbacks
+    mul-fallbacks
+    add-fallbacks-2
     list-offer-requires-2
     enum-known-offer-2
     enum-told

@@ -39,13 +39,22 @@ same-length c = search needs
 returns : tie.Need-returns
 unfolding bytes16 headBytes
 returns c =
-    put-on (c .before .before .put-byte4 .ensures)
-    (put-on (c .before .before .before .before .before .before .put-byte3 .ensures)
-    (put-on (c .before .before .before .before .before .before .before .before .before .before .put-byte2 .ensures)
-    (put-on (c .before .before .before .before .before .before .before .before .before .before .before .before .before .before .before .put-byte .ensures)
-    (put-on (c .before .before .before .before .before .before .before .before .before .before .before .before .before .before .before .before .before .before .before .before .put-half2 .ensures) (c .before .before .before .before .before .before .before .before .before .before .before .before .before .before .before .before .before .before .before .before .before .before .before .before .put-half .ensures) refl)
-    (ap (λ n. n ∷ []) (c .before .before .before .before .before .before .before .before .before .before .before .before .before .before .before .before .flag .ensures)))
-    (ap (λ n. n ∷ []) (c .before .before .before .before .before .before .before .before .before .before .before .twos-complement .ensures ∙ ap twosComplement (toZ-ofZ (c .before .before .before .before .before .before .before .before .before .before .before .before .before .before .before .before .before .before .before .before .before .before .before .before .before .before .before .fits .skew)))))
+    let c2 = c .before .before in
+    let c6 = c2 .before .before .before .before in
+    let c10 = c6 .before .before .before .before in
+    let c11 = c10 .before in
+    let c15 = c11 .before .before .before .before in
+    let c16 = c15 .before in
+    let c20 = c16 .before .before .before .before in
+    let c24 = c20 .before .before .before .before in
+    let c27 = c24 .before .before .before in
+    put-on (c2 .put-byte4 .ensures)
+    (put-on (c6 .put-byte3 .ensures)
+    (put-on (c10 .put-byte2 .ensures)
+    (put-on (c15 .put-byte .ensures)
+    (put-on (c20 .put-half2 .ensures) (c24 .put-half .ensures) refl)
+    (ap (λ n. n ∷ []) (c16 .flag .ensures)))
+    (ap (λ n. n ∷ []) (c11 .twos-complement .ensures ∙ ap twosComplement (toZ-ofZ (c27 .fits .skew)))))
     refl)
     refl
 

@@ -7,6 +7,7 @@ use mathlib.Core.List.{append-assoc}
 use native.Mathlib.Omega.{arith}
 use lib.ListN.{length}
 use lib.Seq.{take-all}
+use Rattle.query.specs.Sizes.{recordSize}
 use Rattle.query.specs.Record.{headBytes, slotAt, recordBytes}
 use Rattle.query.proofs.Written.{put-on}
 use borrow.Author.Needs.{needs}
@@ -52,13 +53,20 @@ same-length c = search needs
 returns : tie.Need-returns
 unfolding recordBytes slotAt
 returns c =
-    let s = c .before .before .before .before .before .before .before .before .before .before .before .before .before .before .before .before .before .before .before .before .before .before .before .before .args .synthesis in
-    let l : length (c .before .before .put-index .last .0) ≤ 40 = omega (arith, c .before .before .put-index .kept .0) in
-    sym (take-all 40 (c .before .before .put-index .last .0) l)
-    ∙ put-on (c .before .before .put-index .ensures)
-    (put-on (c .before .before .before .before .before .before .put-slot3 .ensures)
-    (put-on (c .before .before .before .before .before .before .before .before .before .before .put-slot2 .ensures)
-    (put-on (c .before .before .before .before .before .before .before .before .before .before .before .before .before .before .put-slot .ensures) (c .before .before .before .before .before .before .before .before .before .before .before .before .before .before .before .before .before .before .put-head .ensures ∙ ap (λ z. headBytes (c .before .before .before .before .before .before .before .before .before .before .before .before .before .before .before .before .before .before .before .before .before .before .before .before .args .offer) (s .embolden) z (s .len)) (toZ-ofZ {w = w8} {z = s .skew} (record { sfits = c .before .before .before .before .before .before .before .before .before .before .before .before .before .before .before .before .before .before .before .struct-told .given .1 .1 .1 .1 .1 .0 .1 }))) refl) refl)
+    let c2 = c .before .before in
+    let c6 = c2 .before .before .before .before in
+    let c10 = c6 .before .before .before .before in
+    let c14 = c10 .before .before .before .before in
+    let c18 = c14 .before .before .before .before in
+    let c19 = c18 .before in
+    let c24 = c19 .before .before .before .before .before in
+    let s = c24 .args .synthesis in
+    let l : length (c2 .put-index .last .0) ≤ recordSize = omega (arith, c2 .put-index .kept .0) in
+    sym (take-all recordSize (c2 .put-index .last .0) l)
+    ∙ put-on (c2 .put-index .ensures)
+    (put-on (c6 .put-slot3 .ensures)
+    (put-on (c10 .put-slot2 .ensures)
+    (put-on (c14 .put-slot .ensures) (c18 .put-head .ensures ∙ ap (λ z. headBytes (c24 .args .offer) (s .embolden) z (s .len)) (toZ-ofZ {w = w8} {z = s .skew} (record { sfits = c19 .struct-told .given .1 .1 .1 .1 .1 .0 .1 }))) refl) refl)
     refl)
     refl
     ∙ simp append-assoc

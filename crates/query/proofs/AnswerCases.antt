@@ -1,0 +1,290 @@
+-- The offer call, case by case: what each return of its code has to show.
+use Prim.Native.Nat.{ℕ, zero, suc, _+_, _-_, _^_, _≤_, _<_}
+use mathlib.Core.Path.{_≡_, refl, sym, ap, _∙_}
+use mathlib.Core.Bool.{Bool, true, false, cond}
+use mathlib.Core.List.{List, [], _∷_}
+use native.Mathlib.Omega.{arith}
+use lib.Dec.{ltb, eqb}
+use lib.IntN.{ℤ}
+use lib.ListN.{length, getD}
+use borrow.Author.Tests.{lt-ltb, le-ltb, ltb-true, ltb-false, eq-eqb, ne-eqb}
+use Rattle.font.specs.declared.attributes.Attributes.{Attributes}
+use Rattle.font.specs.declared.charmap.CharmapIndex.{CharmapIndex}
+use Rattle.font.specs.declared.font.FontInfo.{FontInfo}
+use Rattle.font.specs.Overrides.{withOverride}
+use Rattle.font.specs.Font.{fromFontRef}
+use Rattle.font.proofs.Inside.{offset-inside}
+use Rattle.matching.specs.declared.order.Request as Matching
+use Rattle.matching.specs.declared.synthesis.Synthesis.{Synthesis}
+use Rattle.matching.specs.declared.synthesis.Setting.{Setting}
+use Rattle.matching.specs.declared.synthesis.Setting.the-variants.{Unset, Set}
+use Rattle.matching.specs.Matching.{requestOf}
+use Rattle.matching.specs.Synthesis.{unvaried, put, added, synthesized, variesOf}
+use Rattle.query.specs.declared.answer.Offer.{Offer}
+use Rattle.query.specs.declared.offers.Offered.{Offered}
+use Rattle.query.specs.declared.offers.Offered.the-variants.{At, Past}
+use Rattle.query.specs.declared.answer.Answer.{Answer}
+use Rattle.query.specs.declared.call.SearchResult.{SearchResult}
+use Rattle.query.specs.declared.job.Checked.{Checked}
+use Rattle.query.specs.declared.job.Walked.{Walked}
+use Rattle.query.specs.Sizes.{recordSize}
+use Rattle.query.specs.Reader.{Got, refused, got}
+use Rattle.query.specs.Layout.{Bytes, Every, Fits32, FaceFits}
+use Rattle.query.specs.Entries.{Face, Override, Request}
+use Rattle.query.specs.Job.{Job, readJob, answer, checkJob, jobOf}
+use Rattle.query.specs.View.{View, overriddenBy, afterOverrides, entryOf, viewOf}
+use Rattle.query.specs.Offers.{offerOf, membersOf, offersOf, faceOfOffer, synthesisOfOffer, offerAt}
+use Rattle.query.specs.Values.{attributesAt, requestAt}
+use Rattle.query.specs.CallTables.{OfferedFace, LoadAnswer}
+use Rattle.query.specs.Listed.{listedAt, Names, answerAt, Locates, SearchAnswer, LeadsTo}
+use Rattle.query.specs.Record.{recordBytes}
+use Rattle.query.specs.Call.{Called, withoutOffer, withSynthesis, answered, requestOfJob, requestAnswer, jobAnswer, answerCall, written, unwritten, offerCall, Calls}
+use Rattle.query.proofs.AcceptedJobs.{accepted-is-a-layout}
+use Rattle.query.proofs.Checks.{accepted}
+use Rattle.query.proofs.Picked.{pick-in, pick-past}
+use Rattle.query.proofs.SoundOffers.{offers-sound}
+
+-- ---- the answer to a request and an offer number
+
+-- a search that gives a result alone
+pub finds-none : {s : List ℕ} {a : Answer} {f : SearchResult} {n : ℕ} → f .result ≡ n → (n ≡ 0 → ⊥) → withoutOffer n ≡ a → LeadsTo s a f
+finds-none is h e =
+    record {
+      readable = λ z. absurd (h (sym is ∙ z));
+      leads = λ r. r .none (λ z. h (sym is ∙ z)) ∙ ap withoutOffer is ∙ e;
+    }
+
+pub finds-same : {s : List ℕ} {a b : Answer} {f : SearchResult} → a ≡ b → LeadsTo s a f → LeadsTo s b f
+finds-same e finds = record { readable = finds .readable; leads = λ r. finds .leads r ∙ e }
+
+module _ (s : List ℕ) (k n : ℕ) where
+  pub job-refused : (r : ℕ) → r ≡ checkJob s .refusal → (r ≡ 0 → ⊥) → withoutOffer r ≡ answerCall s k n
+  unfolding answerCall checkJob answer jobAnswer
+  job-refused r same h = go (readJob s) same
+    where
+      go : (g : Got Job) → r ≡ answer g .refusal → withoutOffer r ≡ jobAnswer g k n
+      go (refused w p) e = ap withoutOffer e
+      go (got j p) e = absurd (h e)
+
+  module _ (j : Job) (e : ℕ) (read : readJob s ≡ got j e) where
+    called : answerCall s k n ≡ requestAnswer j k n
+    unfolding answerCall jobAnswer
+    called = rw read
+
+    pub no-request : length (j .requests) ≤ k → answerCall s k n ≡ withoutOffer 28
+    unfolding requestAnswer
+    no-request h = called ∙ rw (le-ltb k (length (j .requests)) h)
+
+    pub a-request : k < length (j .requests) → answerCall s k n ≡ answered (viewOf j) (requestOfJob j k) (offerAt (offersOf (viewOf j) (requestOfJob j k)) n)
+    unfolding requestAnswer
+    a-request there = called ∙ rw (lt-ltb k (length (j .requests)) there)
+
+-- the same from what was loaded for the request of a number
+module _ {s : List ℕ} {w : Walked} {rows : List (List ℕ)} {families : List ℕ} {k : ℕ} (loads : LoadAnswer s w rows families k) where
+  pub refusal-is : w .refusal ≡ checkJob s .refusal
+  refusal-is = ap (λ (c : Checked). c .refusal) (loads .checked)
+
+  module _ (z : w .refusal ≡ 0) where
+    the : (q : ℕ) × (readJob s ≡ got (jobOf s) q)
+    the = accepted s (sym refusal-is ∙ z)
+
+    pub unknown-request : w .requests ≤ k → (n : ℕ) → withoutOffer 28 ≡ answerCall s k n
+    unknown-request h n = sym (no-request s k n (jobOf s) (the .0) (the .1) (omega (arith, loads .requests z)))
+
+    module _ (there : k < w .requests) where
+      known : k < length (jobOf s .requests)
+      known = omega (arith, loads .requests z)
+
+      pub request-inside : w .request < length s
+      request-inside = loads .request (requestOfJob (jobOf s) k) z known .inside
+
+      pub request-answered : (n : ℕ) → answerAt s (w .request) n ≡ answerCall s k n
+      unfolding answerAt requestOfJob
+      request-answered n =
+          ap (λ (r : Request). answered (viewOf (jobOf s)) r (offerAt (offersOf (viewOf (jobOf s)) r) n)) (loads .request _ z known .is)
+          ∙ sym (a-request s k n (jobOf s) (the .0) (the .1) known)
+
+-- ---- the request that lies at a position
+
+-- the offer of a number is one of the list
+in-list : (list : List Offer) (n : ℕ) (o : Offer) → offerAt list n ≡ At o → (n < length list) × (getD list n (offerOf 0 0) ≡ o)
+unfolding offerAt
+in-list list n o e = go (ltb n (length list)) refl
+  where
+    go : (b : Bool) → ltb n (length list) ≡ b → (n < length list) × (getD list n (offerOf 0 0) ≡ o)
+    go true t = let l = ltb-true n (length list) t in (l, let p = pick-in At (λ k. Past) list n (offerOf 0 0) l in cc)
+    go false t =
+        let q = pick-past At (λ k. Past) list n (n - length list) (omega (arith, ltb-false n (length list) t)) in
+        absurd (let z : _≡_ {A = ℕ} 0 1 = cc in omega arith)
+
+module _ (s : List ℕ) (p n : ℕ) {wanted : Attributes} (asks : wanted ≡ attributesAt s (p + 2)) {request : Matching.Request} (made : request ≡ requestOf wanted true)
+    {found : Offered} (is : found ≡ offerAt (listedAt s p request) n) where
+  list-is : listedAt s p request ≡ offersOf (viewOf (jobOf s)) (requestAt s p)
+  unfolding listedAt offersOf requestAt
+  list-is = rw (made, asks)
+
+  answer-is : answered (viewOf (jobOf s)) (requestAt s p) found ≡ answerAt s p n
+  unfolding answerAt
+  answer-is = ap (answered (viewOf (jobOf s)) (requestAt s p)) (is ∙ ap (λ (os : List Offer). offerAt os n) list-is)
+
+  pub past-list : found ≡ Past → withoutOffer 1 ≡ answerAt s p n
+  unfolding answered
+  past-list none = sym (ap (answered (viewOf (jobOf s)) (requestAt s p)) none) ∙ answer-is
+
+  module _ {o : Offer} (some : found ≡ At o) where
+    pub found-names : Names s o
+    unfolding listedAt
+    found-names =
+        let q = in-list (listedAt s p request) n o (sym is ∙ some) in
+        let g = offers-sound (viewOf (jobOf s)) request (requestAt s p .most) (requestAt s p .families) (requestAt s p .fallbacks) n (q .0) in
+        record { family = rw (q .1) at (g .0); place = rw (q .1) at (g .1) }
+
+    an-offer : {font : FontInfo} → font ≡ faceOfOffer (viewOf (jobOf s)) o
+        → withSynthesis o (synthesized (font .attributes) (variesOf font) wanted) (font .«charmap_index») ≡ answerAt s p n
+    unfolding answered synthesisOfOffer requestAt
+    an-offer face =
+        (λ i. withSynthesis o (synthesized (face i .attributes) (variesOf (face i)) (asks i)) (face i .«charmap_index»))
+        ∙ sym (ap (answered (viewOf (jobOf s)) (requestAt s p)) some)
+        ∙ answer-is
+
+    pub finds-offer : {f : SearchResult} → Locates s o wanted f → LeadsTo s (answerAt s p n) f
+    finds-offer {f} lies =
+        record {
+          readable = λ z. lies .readable;
+          leads = λ r. let g = r .some (lies .found) in g .is ∙ same (g .font) ∙ an-offer (lies .face (g .font) (g .face));
+        }
+      where
+        same : (font : FontInfo) → withSynthesis (f .offer) (synthesized (font .attributes) (variesOf font) (f .wanted)) (font .«charmap_index»)
+            ≡ withSynthesis o (synthesized (font .attributes) (variesOf font) wanted) (font .«charmap_index»)
+        same font = rw (lies .offer, lies .wanted-is)
+
+-- the answer from the face that was read
+pub face-answered : {s : List ℕ} {f : SearchResult} {font : FontInfo} {a : Answer} → f .result ≡ 0 → OfferedFace s (f .section) (f .entry) (f .number) font
+    → a ≡ withSynthesis (f .offer) (synthesized (font .attributes) (variesOf font) (f .wanted)) (font .«charmap_index») → SearchAnswer s f a
+face-answered {font = font} z face is = record { none = λ h. absurd (h z); some = λ _. record { font = font; face = face; is = is } }
+
+-- ---- synthesis
+
+-- Width, weight and style each set at most one axis, so an offer's synthesis has no fourth setting: 29 is in the table, and no job leads to it.
+three : (b : Bool) (k : ℤ) (x y z : Setting) → added (added (added (unvaried 0 b k) x) y) z .refusal ≡ 0
+unfolding added put unvaried
+three b k Unset Unset Unset = refl
+three b k Unset Unset (Set t v) = refl
+three b k Unset (Set t v) Unset = refl
+three b k Unset (Set t v) (Set u w) = refl
+three b k (Set t v) Unset Unset = refl
+three b k (Set t v) Unset (Set u w) = refl
+three b k (Set t v) (Set u w) Unset = refl
+three b k (Set t v) (Set u w) (Set c d) = refl
+
+pub no-fourth : (view : View) (r : Request) (o : Offer) → synthesisOfOffer view r o .refusal ≡ 0
+unfolding synthesisOfOffer synthesized
+no-fourth view r o = three _ _ _ _ _
+
+-- ---- the charmap index of an answer fits 32 bits
+
+-- what holds of every entry of a list, and of what stands past it, holds at each place
+pub every-at : {A : Type 0} (P : A → Type 0) (d : A) → P d → (xs : List A) → Every P xs → (k : ℕ) → P (getD xs k d)
+unfolding Every
+every-at P d h [] w k = h
+every-at P d h (x ∷ xs) w zero = w .0
+every-at P d h (x ∷ xs) w (suc k) = every-at P d h xs (w .1) k
+
+abbrev pub Small : CharmapIndex → Type 0
+Small index = index .«subtable_offset» < 2 ^ 32
+
+kept-index : (os : List Override) (i : ℕ) (f : FontInfo) → afterOverrides os i f .«charmap_index» ≡ f .«charmap_index»
+unfolding afterOverrides overriddenBy withOverride
+kept-index [] i f = refl
+kept-index (o ∷ os) i f = kept-index os i (cond (eqb (o .face) i) (overriddenBy o f) f) ∙ one (eqb (o .face) i)
+  where
+    one : (b : Bool) → cond b (overriddenBy o f) f .«charmap_index» ≡ f .«charmap_index»
+    one true = refl
+    one false = refl
+
+font-lengths : (fs : List Face) → Every FaceFits fs → Every (λ (f : Face). Fits32 (length (f .font))) fs
+unfolding Every
+font-lengths [] w = w
+font-lengths (f ∷ fs) w = (w .0 .long, font-lengths fs (w .1))
+
+module _ (s : List ℕ) (bytes : Bytes s) where
+  font-small : (j : Job) (e : ℕ) → readJob s ≡ got j e → (i : ℕ) → Small (viewOf j .font i .«charmap_index»)
+  unfolding viewOf entryOf
+  font-small j e read i =
+      let none : Face = record { held = false; font = [] } in
+      let fits = font-lengths (j .faces) (accepted-is-a-layout s bytes j e read .fits .faces .1) in
+      omega (
+        arith,
+        ap (λ (x : CharmapIndex). x .«subtable_offset») (kept-index (j .overrides) i (fromFontRef (getD (j .faces) i none .font) .font)),
+        offset-inside (getD (j .faces) i none .font),
+        every-at (λ (f : Face). Fits32 (length (f .font))) none (omega arith) (j .faces) fits i,
+      )
+
+  made-small : (o : Offer) (made : Synthesis) (index : CharmapIndex) → Small index → Small (withSynthesis o made index .«charmap_index»)
+  unfolding withSynthesis withoutOffer
+  made-small o made index h = go (eqb (made .refusal) 29)
+    where
+      go : (b : Bool) → Small (cond b (withoutOffer 29) (record { result = 0; offer = o; synthesis = made; «charmap_index» = index }) .«charmap_index»)
+      go true = omega arith
+      go false = h
+
+  index-fits : (k n : ℕ) → Small (answerCall s k n .«charmap_index»)
+  unfolding answerCall jobAnswer requestAnswer answered withoutOffer faceOfOffer
+  index-fits k n = go (readJob s) refl
+    where
+      last : (view : View) → ((i : ℕ) → Small (view .font i .«charmap_index»)) → (r : Request) (a : Offered) → Small (answered view r a .«charmap_index»)
+      last view f r (At o) = made-small o (synthesisOfOffer view r o) (faceOfOffer view o .«charmap_index») (f (getD (membersOf view (o .family)) (o .place) 0))
+      last view f r Past = omega arith
+
+      there : (b : Bool) (a : Answer) → Small (a .«charmap_index») → Small (cond b a (withoutOffer 28) .«charmap_index»)
+      there true a h = h
+      there false a h = omega arith
+
+      go : (g : Got Job) → readJob s ≡ g → Small (jobAnswer g k n .«charmap_index»)
+      go (refused w p) e = omega arith
+      go (got j p) e =
+          there (ltb k (length (j .requests))) (answered (viewOf j) (requestOfJob j k) (offerAt (offersOf (viewOf j) (requestOfJob j k)) n))
+          (last (viewOf j) (font-small j p e) (requestOfJob j k) (offerAt (offersOf (viewOf j) (requestOfJob j k)) n))
+
+  pub index-below : (k n : ℕ) {a : Answer} → a ≡ answerCall s k n → Small (a .«charmap_index»)
+  index-below k n is = rw is (index-fits k n)
+
+-- ---- the call
+
+module _ (s : List ℕ) (k n : ℕ) (out : List ℕ) where
+  pub wrong-length : (length out ≡ recordSize → ⊥) → Calls (offerCall s k n out) 16 out
+  unfolding offerCall unwritten
+  wrong-length h = rw (ne-eqb (length out) recordSize h) (record { result-is = refl; output-is = refl })
+
+  module _ (long : length out ≡ recordSize) {a : Answer} (is : a ≡ answerCall s k n) where
+    pub call-written : offerCall s k n out ≡ written a out
+    unfolding offerCall
+    call-written = rw (eq-eqb (length out) recordSize long) (ap (λ (x : Answer). written x out) (sym is))
+
+    pub record-written : a .result ≡ 0 → {after : List ℕ} → after ≡ recordBytes (a .offer) (a .synthesis) (a .«charmap_index»)
+        → Calls (offerCall s k n out) (a .result) after
+    unfolding written
+    record-written z bytes =
+        let w : offerCall s k n out ≡ record { result = 0; output = recordBytes (a .offer) (a .synthesis) (a .«charmap_index») } =
+        call-written ∙ rw (eq-eqb (a .result) 0 z) in
+        record { result-is = z ∙ sym (ap (λ (x : Called). x .result) w); output-is = bytes ∙ sym (ap (λ (x : Called). x .output) w) }
+
+    pub nothing-written : (a .result ≡ 0 → ⊥) → Calls (offerCall s k n out) (a .result) out
+    unfolding written unwritten
+    nothing-written h =
+        let w : offerCall s k n out ≡ unwritten (a .result) out = call-written ∙ rw (ne-eqb (a .result) 0 h) in
+        record { result-is = sym (ap (λ (x : Called). x .result) w); output-is = sym (ap (λ (x : Called). x .output) w) }
+
+  -- "A refusal returns its number and writes nothing": all but 0 leave the output as it was
+  pub kept : (offerCall s k n out .result ≡ 0 → ⊥) → offerCall s k n out .output ≡ out
+  unfolding offerCall written unwritten
+  kept = go (eqb (length out) recordSize) (answerCall s k n)
+    where
+      last : (b : Bool) (bytes : List ℕ) (m : ℕ)
+          → (cond b (record { result = 0; output = bytes }) (unwritten m out) .result ≡ 0 → ⊥) → cond b (record { result = 0; output = bytes }) (unwritten m out) .output ≡ out
+      last true bytes m h = absurd (h refl)
+      last false bytes m h = refl
+
+      go : (b : Bool) (a : Answer) → (cond b (written a out) (unwritten 16 out) .result ≡ 0 → ⊥) → cond b (written a out) (unwritten 16 out) .output ≡ out
+      go false a h = refl
+      go true a h = last (eqb (a .result) 0) _ _ h

@@ -1,0 +1,120 @@
+-- A family's offers as places and a count, and how an offer's number is found by subtracting counts. No promise to a user cites this.
+use Prim.Native.Nat.{ℕ, suc, _+_, _*_, _^_, _≤_, _<_}
+use mathlib.Core.Path.{_≡_}
+use mathlib.Core.Bool.{Bool, not, _&&_}
+use mathlib.Core.List.{List, [], _++_}
+use lib.Dec.{ltb}
+use lib.ListN.{length, getD}
+use Rattle.font.specs.Tables.{u16At}
+use Rattle.font.specs.declared.attributes.Attributes.{Attributes}
+use Rattle.font.specs.declared.font.FontInfo.{FontInfo}
+use Rattle.matching.specs.declared.order.Request.{Request}
+use Rattle.matching.specs.Order.{sameFace}
+use Rattle.matching.specs.Rows.{faceOfRow, familyOfRows}
+use Rattle.matching.specs.Synthesis.{synthesized, variesOf}
+use Rattle.query.specs.declared.answer.Offer.{Offer}
+use Rattle.query.specs.declared.families.Listing.{Listing}
+use Rattle.query.specs.declared.answer.Answer.{Answer}
+use Rattle.query.specs.declared.call.SearchResult.{SearchResult}
+use Rattle.query.specs.Sizes.{mostOverrides, mostFamilies, mostPlaces, mostOffers}
+use Rattle.query.specs.Fields.{counted}
+use Rattle.query.specs.Entries.{readOverride}
+use Rattle.query.specs.Positions.{LiesAt}
+use Rattle.query.specs.Call.{withoutOffer, withSynthesis, answered}
+use Rattle.query.specs.Job.{jobOf}
+use Rattle.query.specs.View.{viewOf}
+use Rattle.query.specs.Values.{requestAt}
+use Rattle.query.specs.Offers.{membersOf, familyOffers, numberOffers, offers, offersOf, faceOfOffer, offerAt}
+use Rattle.query.specs.CallTables.{heldRow, OfferedFace}
+
+-- a family of at most 64 faces, each with one of so many rows, as it lies at a position
+pub record MembersKnown (s : List ℕ) (p rows : ℕ) : Type 0 where
+  pub few : u16At s p ≤ mostPlaces
+  pub known : (i : ℕ) → i < u16At s p → u16At s (p + 2 + 2 * i) < rows
+
+-- its rows
+pub record Gathers (s : List ℕ) (p : ℕ) (rows : List (List ℕ)) (count : ℕ) (group : List (List ℕ)) : Type 0 where
+  pub all : count ≡ u16At s p
+  pub each : (i : ℕ) → i < count → getD group i [] ≡ getD rows (u16At s (p + 2 + 2 * i)) []
+
+-- places and a count are a list of so many at most
+pub record Lists (o : Listing) (most : ℕ) (xs : List ℕ) : Type 0 where
+  pub long : length (o .places) ≡ mostOffers
+  pub count : o .count ≡ length xs
+  pub few : length xs ≤ most
+  pub places : (i : ℕ) → i < length xs → getD (o .places) i 0 ≡ getD xs i 0
+
+-- places and a count are a list, or the part of it that comes first and has an n-th
+pub record Reaches (o : Listing) (n : ℕ) (xs : List ℕ) : Type 0 where
+  pub start : List ℕ
+  pub rest : List ℕ
+  pub are : xs ≡ start ++ rest
+  pub lists : Lists o mostOffers start
+  pub whole : length start ≤ n → rest ≡ []
+
+-- the default is held, and it is no held face that equals the chosen one
+unfoldable pub defaultOffered : List (List ℕ) → ℕ → ℕ → ℕ → Bool
+defaultOffered group count chosen d =
+    ltb d count && (heldRow group d && not (ltb chosen count && sameFace (faceOfRow (getD group d [])) (faceOfRow (getD group chosen []))))
+
+-- the offers of the family that lies at a position, as far as they are worked out for an n-th
+pub record OffersAt (s : List ℕ) (p : ℕ) (rows : List (List ℕ)) (request : Request) (n : ℕ) (o : Listing) : Type 0 where
+  pub group : List (List ℕ)
+  pub gathered : Gathers s p rows (u16At s p) group
+  pub reaches : Reaches o n (familyOffers (familyOfRows group (u16At s p)) (heldRow group) request)
+
+-- for each family of the job: 0, or one more than how many offers it has
+pub record Counted (s : List ℕ) (request : Request) (counts : List ℕ) : Type 0 where
+  pub long : length counts ≡ mostFamilies
+  pub few : (f : ℕ) → f < mostFamilies → getD counts f 0 ≤ suc mostOffers
+  pub right : (f : ℕ) → f < mostFamilies → (getD counts f 0 ≡ 0 → ⊥) → getD counts f 0 ≡ suc (length (numberOffers (viewOf (jobOf s)) request f))
+
+-- the offers of the request that lies at a position
+unfoldable pub listedAt : List ℕ → ℕ → Request → List Offer
+listedAt s p request =
+    offers (viewOf (jobOf s)) request (requestAt s p .most) (requestAt s p .families) (requestAt s p .fallbacks)
+
+-- ---- what the steps of an offer call hand on
+
+-- the overrides of the job lie in the section at a position
+abbrev pub SectionIn : List ℕ → ℕ → Type 0
+SectionIn s p = LiesAt (counted mostOverrides (readOverride (length (jobOf s .faces)))) s p (jobOf s .overrides)
+
+-- an offer names a family of the job and a place in it
+pub record Names (s : List ℕ) (o : Offer) : Type 0 where
+  pub family : o .family < length (viewOf (jobOf s) .families)
+  pub place : o .place < length (membersOf (viewOf (jobOf s)) (o .family))
+
+-- the answer to the request that lies at a position
+unfoldable pub answerAt : List ℕ → ℕ → ℕ → Answer
+answerAt s p n = answered (viewOf (jobOf s)) (requestAt s p) (offerAt (offersOf (viewOf (jobOf s)) (requestAt s p)) n)
+
+-- the face of an offer that was found lies where it may be read
+pub record Readable (s : List ℕ) (f : SearchResult) : Type 0 where
+  pub section : f .section < 2 ^ 31
+  pub overrides : u16At s (f .section) ≤ mostOverrides
+  pub entry : f .entry < 2 ^ 62
+
+-- an offer was found, with where its face lies, for a request of these attributes
+pub record Locates (s : List ℕ) (o : Offer) (wanted : Attributes) (f : SearchResult) : Type 0 where
+  pub found : f .result ≡ 0
+  pub offer : f .offer ≡ o
+  pub wanted-is : f .wanted ≡ wanted
+  pub readable : Readable s f
+  pub face : (font : FontInfo) → OfferedFace s (f .section) (f .entry) (f .number) font → font ≡ faceOfOffer (viewOf (jobOf s)) o
+
+-- the answer with the offer that was found
+pub record FaceAnswer (s : List ℕ) (f : SearchResult) (a : Answer) : Type 0 where
+  pub font : FontInfo
+  pub face : OfferedFace s (f .section) (f .entry) (f .number) font
+  pub is : a ≡ withSynthesis (f .offer) (synthesized (font .attributes) (variesOf font) (f .wanted)) (font .«charmap_index»)
+
+-- the answer of a search
+pub record SearchAnswer (s : List ℕ) (f : SearchResult) (a : Answer) : Type 0 where
+  pub none : (f .result ≡ 0 → ⊥) → a ≡ withoutOffer (f .result)
+  pub some : f .result ≡ 0 → FaceAnswer s f a
+
+-- a search leads to an answer
+pub record LeadsTo (s : List ℕ) (a : Answer) (f : SearchResult) : Type 0 where
+  pub readable : f .result ≡ 0 → Readable s f
+  pub leads : {r : Answer} → SearchAnswer s f r → r ≡ a

@@ -1,0 +1,38 @@
+-- Section 6: what the offers look at in a job. A later reading of a job changes `viewOf` alone.
+use Prim.Native.Nat.{ℕ}
+use mathlib.Core.Bool.{Bool, false, cond}
+use mathlib.Core.List.{List, [], _∷_, map}
+use lib.Dec.{eqb}
+use lib.ListN.{getD}
+use Rattle.font.specs.declared.font.FontInfo.{FontInfo}
+use Rattle.font.specs.Font.{fromFontRef}
+use Rattle.font.specs.Overrides.{withOverride}
+use Rattle.query.specs.Entries.{Face, Pair, Override, Family}
+use Rattle.query.specs.Job.{Job}
+
+-- By face number: each face after its overrides, and whether it is held. By family number: its face numbers, in place order.
+pub record View : Type 0 where
+  pub font : ℕ → FontInfo
+  pub held : ℕ → Bool
+  pub families : List (List ℕ)
+
+-- an override on the face that it names, by section 3
+unfoldable pub overriddenBy : Override → FontInfo → FontInfo
+overriddenBy o f = withOverride f (o .given) (map (λ (p : Pair). p .tag) (o .pairs)) (map (λ (p : Pair). p .value) (o .pairs))
+
+-- "Overrides .. Applied in order." Those of the face i.
+unfoldable pub afterOverrides : List Override → ℕ → FontInfo → FontInfo
+afterOverrides [] i f = f
+afterOverrides (o ∷ os) i f = afterOverrides os i (cond (eqb (o .face) i) (overriddenBy o f) f)
+
+-- the entry of a face; what stands past the list is read by nothing
+unfoldable pub entryOf : List Face → ℕ → Face
+entryOf faces i = getD faces i (record { held = false; font = [] })
+
+unfoldable pub viewOf : Job → View
+viewOf job =
+    record {
+      font = λ i. afterOverrides (job .overrides) i (fromFontRef (entryOf (job .faces) i .font) .font);
+      held = λ i. entryOf (job .faces) i .held;
+      families = map (λ (m : Family). m .members) (job .families);
+    }
