@@ -3,7 +3,7 @@
 use std::{env, path::PathBuf, process};
 
 /// The place of the library when STEMHOOK_LIB is not set, from this package's folder.
-const DEFAULT: &str = "../../target/staticlib/libquery.a";
+const DEFAULT: &str = "../../target/staticlib/libstemhook.a";
 
 fn main() {
     println!("cargo::rerun-if-changed=build.rs");

@@ -1,5 +1,6 @@
 //! The benchmark: one run, one driver; prints tables for docs/BENCHMARKS.md.
 
+mod instructions;
 mod measure;
 mod sizes;
 mod stack;
@@ -11,14 +12,74 @@ use reference::call;
 
 const USAGE: &str = "\
 usage:
-  bench [--rounds N]              the tables
-  bench --loop small|middle|large [--rounds N]   our offer call alone, for a profile";
+  bench [--rounds N]                             the tables
+  bench --loop SIZE [--rounds N]                 our offer call alone, for a profile
+  bench --batch proved|rust SIZE CALLS BATCHES   nothing but these calls, for their instructions
+SIZE is small, middle, large or lists; CALLS is `check`, or REQUEST:OFFER with commas between them";
 
 /// Rounds where no number is given.
 const ROUNDS: usize = 41;
 
-/// Requests of a job that are asked for in one batch, at most.
+/// Requests of a job that are asked for in one batch, at most, where lists are short.
 const ASKED: usize = 16;
+
+/// A job that is measured.
+struct Size {
+    /// In commands.
+    name: &'static str,
+    /// In tables.
+    label: &'static str,
+    job: fn() -> Vec<u8>,
+    /// Requests that are asked for in one batch, at most.
+    asked: usize,
+    /// Whether offers between the first and the last are measured too.
+    spread: bool,
+}
+
+const SIZES: [Size; 4] = [
+    Size {
+        name: "small",
+        label: "2 faces, 1 family, 1 request",
+        job: sizes::small,
+        asked: ASKED,
+        spread: false,
+    },
+    Size {
+        name: "middle",
+        label: "12 faces, 2 families of 6, 20 requests",
+        job: || sizes::middle(0),
+        asked: ASKED,
+        spread: false,
+    },
+    Size {
+        name: "large",
+        label: "256 faces, 256 overrides, 64 families of 64, 256 requests",
+        job: sizes::large,
+        asked: ASKED,
+        spread: false,
+    },
+    // Fewer requests: a list has some hundred offers, and each is compared.
+    Size {
+        name: "lists",
+        label: "256 faces, 64 families of 4 to 8, 256 requests of 255 families and 255 fallbacks, each eighth unknown",
+        job: sizes::lists,
+        asked: 4,
+        spread: true,
+    },
+];
+
+fn size_of(name: &str) -> Option<&'static Size> {
+    SIZES.iter().find(|size| size.name == name)
+}
+
+/// Offers of a list that stand for all of them.
+const SPREAD: u32 = 16;
+
+/// The call of one side.
+type Offer = fn(&[u8], u32, u32, &mut [u8]) -> u32;
+
+/// The sides by the names that a command has for them.
+const SIDES: [(&str, Offer); 2] = [("proved", exported::offer), ("rust", call::offer)];
 
 /// A job, and for some of its requests the number of their offers.
 struct Asked {
@@ -28,10 +89,10 @@ struct Asked {
 
 /// Asks both sides for every offer of some requests, up to one past each
 /// list. This is the warm-up too.
-fn ask(job: Vec<u8>) -> Result<Asked, String> {
+fn ask(job: Vec<u8>, most: usize) -> Result<Asked, String> {
     let parts = jobs::layout::parts(&job);
     let count = parts.requests.len();
-    let asked = count.min(ASKED);
+    let asked = count.min(most);
     let mut lists = Vec::new();
     for request in (0..asked).map(|i| (i * count / asked + i % 5).min(count - 1) as u32) {
         let mut offer = 0;
@@ -56,33 +117,37 @@ fn ask(job: Vec<u8>) -> Result<Asked, String> {
     Ok(Asked { job, lists })
 }
 
-/// Which offer of a list is asked for.
+/// Which offers of a list are asked for.
 #[derive(Copy, Clone)]
 enum Which {
     First,
     Last,
     Past,
+    /// From the first to the last, at equal distances.
+    Spread,
 }
 
 fn calls(asked: &Asked, which: Which) -> Vec<(u32, u32)> {
-    let number = |(request, offers): (u32, u32)| {
-        let number = match which {
-            Which::First => 0,
-            Which::Last => offers.saturating_sub(1),
-            Which::Past => offers,
-        };
-        (request, number)
+    let numbers = |offers: u32| {
+        let last = offers.saturating_sub(1);
+        match which {
+            Which::First => vec![0],
+            Which::Last => vec![last],
+            Which::Past => vec![offers],
+            Which::Spread => (0..SPREAD).map(|i| i * last / (SPREAD - 1)).collect(),
+        }
     };
-    asked.lists.iter().copied().map(number).collect()
+    let of_list = |(request, offers): &(u32, u32)| {
+        let request = *request;
+        numbers(*offers)
+            .into_iter()
+            .map(move |number| (request, number))
+    };
+    asked.lists.iter().flat_map(of_list).collect()
 }
 
 /// A batch of offer calls; the output is not cleared between them.
-fn batch(
-    job: &[u8],
-    calls: &[(u32, u32)],
-    out: &mut [u8; 40],
-    offer: fn(&[u8], u32, u32, &mut [u8]) -> u32,
-) {
+fn batch(job: &[u8], calls: &[(u32, u32)], out: &mut [u8; 40], offer: Offer) {
     for (request, number) in calls {
         let out = black_box(&mut out[..]);
         black_box(offer(black_box(job), *request, *number, out));
@@ -119,31 +184,37 @@ fn ratio(spread: Spread) -> String {
     format!("{median:.2} ({low:.2} to {high:.2})")
 }
 
-fn row(label: &str, bytes: usize, measured: &Measured) {
-    println!(
+fn row(label: &str, bytes: usize, measured: &Measured) -> String {
+    format!(
         "| {label} | {bytes} | {} | {} | {} |",
         time(measured.times[0]),
         time(measured.times[1]),
         ratio(measured.ratios[1]),
-    );
+    )
 }
 
 fn head(first: &str) {
     println!("| {first} | Job, bytes | Proved | Rust | Proved / Rust |\n|---|---|---|---|---|");
 }
 
-fn three_sizes() -> Result<[(&'static str, Asked); 3], String> {
-    Ok([
-        ("2 faces, 1 family, 1 request", ask(sizes::small())?),
-        (
-            "12 faces, 2 families of 6, 20 requests",
-            ask(sizes::middle(0))?,
-        ),
-        (
-            "256 faces, 256 overrides, 64 families of 64, 256 requests",
-            ask(sizes::large())?,
-        ),
-    ])
+/// Instructions of a call of each side, and the ratio: cells of a table.
+fn instructions(size: &Size, words: &str, calls: usize) -> Result<String, String> {
+    if !instructions::counted() {
+        return Ok("- | - | -".to_owned());
+    }
+    let of_side = |(side, _)| {
+        let words = ["--batch", side, size.name, words];
+        instructions::of_batch(&words).map(|count| count as f64 / calls as f64)
+    };
+    let [ours, theirs] = SIDES.map(of_side);
+    let (ours, theirs) = (ours?, theirs?);
+    Ok(format!("{ours:.0} | {theirs:.0} | {:.2}", ours / theirs))
+}
+
+/// The sizes with their jobs, once both sides agree on them.
+fn asked_sizes() -> Result<Vec<(&'static Size, Asked)>, String> {
+    let asked = |size: &'static Size| Ok((size, ask((size.job)(), size.asked)?));
+    SIZES.iter().map(asked).collect()
 }
 
 fn check_calls(asked: &Asked, count: usize) -> Measured {
@@ -165,7 +236,7 @@ fn check_calls(asked: &Asked, count: usize) -> Measured {
     )
 }
 
-fn stack_of(asked: &Asked, offer: fn(&[u8], u32, u32, &mut [u8]) -> u32) -> usize {
+fn stack_of(asked: &Asked, offer: Offer) -> usize {
     let mut most = 0;
     for which in [Which::First, Which::Last, Which::Past] {
         let calls = calls(asked, which);
@@ -177,59 +248,87 @@ fn stack_of(asked: &Asked, offer: fn(&[u8], u32, u32, &mut [u8]) -> u32) -> usiz
     most
 }
 
-fn tables(count: usize) -> Result<(), String> {
-    let three = three_sizes()?;
-    println!(
-        "Fonts of {} bytes with 12 tables, the five that are read among them. {count} rounds; median, quarters in brackets.\n",
-        sizes::font_file(0, 0).len()
-    );
+fn offer_table(sizes: &[(&Size, Asked)], count: usize) -> Result<(), String> {
     println!("### The offer call\n");
-    head("Size, offer");
-    for (label, asked) in &three {
+    println!(
+        "| Size, offer | Job, bytes | Proved | Rust | Proved / Rust | Instructions, proved | Instructions, Rust | Proved / Rust |\n|---|---|---|---|---|---|---|---|"
+    );
+    for (size, asked) in sizes {
         for (which, name) in [
             (Which::First, "first"),
             (Which::Last, "last"),
             (Which::Past, "past the list"),
+            (Which::Spread, "mean of 16 over the list"),
         ] {
-            let label = format!("{label}, {name}");
-            row(&label, asked.job.len(), &offers(asked, which, count));
+            if matches!(which, Which::Spread) && !size.spread {
+                continue;
+            }
+            let label = format!("{}, {name}", size.label);
+            let measured = offers(asked, which, count);
+            let calls = calls(asked, which);
+            let words: Vec<String> = calls.iter().map(|(a, b)| format!("{a}:{b}")).collect();
+            let counted = instructions(size, &words.join(","), calls.len())?;
+            let row = row(&label, asked.job.len(), &measured);
+            println!("{row} {counted} |");
         }
     }
+    Ok(())
+}
+
+fn check_table(sizes: &[(&Size, Asked)], count: usize) -> Result<(), String> {
     println!("\n### The check call\n");
     println!(
-        "| Size | Job, bytes | Proved | Rust | `plain` | Proved / Rust | Proved / `plain` |\n|---|---|---|---|---|---|---|"
+        "| Size | Job, bytes | Proved | Rust | `plain` | Proved / Rust | Proved / `plain` | Instructions, proved | Instructions, Rust | Proved / Rust |\n|---|---|---|---|---|---|---|---|---|---|"
     );
-    for (label, asked) in &three {
+    for (size, asked) in sizes {
         let measured = check_calls(asked, count);
         println!(
-            "| {label} | {} | {} | {} | {} | {} | {} |",
+            "| {} | {} | {} | {} | {} | {} | {} | {} |",
+            size.label,
             asked.job.len(),
             time(measured.times[0]),
             time(measured.times[1]),
             time(measured.times[2]),
             ratio(measured.ratios[1]),
             ratio(measured.ratios[2]),
+            instructions(size, "check", 1)?,
         );
     }
+    Ok(())
+}
+
+fn tables(count: usize) -> Result<(), String> {
+    let sizes = asked_sizes()?;
+    println!(
+        "Fonts of {} bytes with 12 tables, the five that are read among them. {count} rounds; median, quarters in brackets. {}\n",
+        sizes::font_file(0, 0).len(),
+        if instructions::counted() {
+            "Instructions of one call, as callgrind counts them."
+        } else {
+            "Instructions are not counted: valgrind is not there."
+        }
+    );
+    offer_table(&sizes, count)?;
+    check_table(&sizes, count)?;
     println!("\n### As the faces of one family double\n");
     head("Faces, past the list");
     for faces in [2, 4, 8, 16, 32, 64] {
-        let asked = ask(sizes::family(faces))?;
+        let asked = ask(sizes::family(faces), ASKED)?;
         let measured = offers(&asked, Which::Past, count);
-        row(&faces.to_string(), asked.job.len(), &measured);
+        println!("{}", row(&faces.to_string(), asked.job.len(), &measured));
     }
     println!("\n### As the fonts grow by bytes that no table of the five holds\n");
     head("12 faces, bytes more in each, first offer");
     for more in [0, 1 << 10, 16 << 10, 256 << 10] {
-        let asked = ask(sizes::middle(more))?;
+        let asked = ask(sizes::middle(more), ASKED)?;
         let measured = offers(&asked, Which::First, count);
-        row(&more.to_string(), asked.job.len(), &measured);
+        println!("{}", row(&more.to_string(), asked.job.len(), &measured));
     }
     println!("\n### Stack of one offer call\n");
     println!("| Size | Proved, bytes | Rust, bytes |\n|---|---|---|");
-    for (label, asked) in &three {
-        let ours = stack_of(asked, exported::offer);
-        println!("| {label} | {ours} | {} |", stack_of(asked, call::offer));
+    for (size, asked) in &sizes {
+        let [ours, theirs] = SIDES.map(|(_, offer)| stack_of(asked, offer));
+        println!("| {} | {ours} | {theirs} |", size.label);
     }
     println!("| no call | {0} | {0} |", stack::used(&mut || {}));
     println!("\n### Size\n");
@@ -240,13 +339,8 @@ fn tables(count: usize) -> Result<(), String> {
 
 /// Our offer call alone: the first offers, so many times over.
 fn repeat(size: &str, count: usize) -> Option<Result<(), String>> {
-    let job = match size {
-        "small" => sizes::small(),
-        "middle" => sizes::middle(0),
-        "large" => sizes::large(),
-        _ => return None,
-    };
-    Some(ask(job).map(|asked| {
+    let size = size_of(size)?;
+    Some(ask((size.job)(), size.asked).map(|asked| {
         let calls = calls(&asked, Which::First);
         let mut out = [0; 40];
         for _ in 0..count {
@@ -254,6 +348,33 @@ fn repeat(size: &str, count: usize) -> Option<Result<(), String>> {
         }
         println!("{} calls", count * calls.len());
     }))
+}
+
+/// So many batches of calls of one side, and nothing else.
+fn batches(side: &str, size: &str, calls: &str, count: &str) -> Option<()> {
+    let (side, offer) = *SIDES.iter().find(|(name, _)| *name == side)?;
+    let job = &(size_of(size)?.job)()[..];
+    let count: usize = count.parse().ok()?;
+    if calls == "check" {
+        for _ in 0..count {
+            if side == "proved" {
+                black_box(exported::check(black_box(job)));
+            } else {
+                let _ = black_box(call::check(black_box(job)));
+            }
+        }
+        return Some(());
+    }
+    let pair = |word: &str| {
+        let (request, number) = word.split_once(':')?;
+        Some((request.parse().ok()?, number.parse().ok()?))
+    };
+    let calls: Vec<(u32, u32)> = calls.split(',').map(pair).collect::<Option<_>>()?;
+    let mut out = [0; 40];
+    for _ in 0..count {
+        batch(job, &calls, &mut out, offer);
+    }
+    Some(())
 }
 
 /// Runs the command; none where it is not understood.
@@ -265,6 +386,13 @@ fn run() -> Option<Result<(), String>> {
         match arg.as_str() {
             "--rounds" => count = args.next()?.parse().ok().filter(|count| *count > 0)?,
             "--loop" => size = Some(args.next()?),
+            "--batch" => {
+                let words: Vec<String> = args.collect();
+                let [side, size, calls, count] = &words[..] else {
+                    return None;
+                };
+                return batches(side, size, calls, count).map(Ok);
+            }
             _ => return None,
         }
     }
@@ -295,8 +423,9 @@ mod tests {
     /// Both sides agree on the jobs that are measured, and there are offers.
     #[test]
     fn sides_agree() {
-        for (label, asked) in three_sizes().unwrap() {
-            assert!(asked.lists.iter().all(|(_, offers)| *offers > 0), "{label}");
+        for (size, asked) in asked_sizes().unwrap() {
+            let offers = asked.lists.iter().map(|(_, offers)| *offers);
+            assert!(offers.min() > Some(0), "{}", size.label);
         }
     }
 
@@ -317,5 +446,43 @@ mod tests {
         assert_eq!(counts(sizes::large()), (256, 256, 64, 256));
         let large = jobs::layout::parts(&sizes::large());
         assert!(large.families.iter().all(|places| places.len() == 64));
+        assert_eq!(counts(sizes::lists()), (256, 0, 64, 256));
+        let lists = jobs::layout::parts(&sizes::lists());
+        let places = lists.families.iter().map(Vec::len);
+        assert_eq!(places.clone().min().zip(places.max()), Some((4, 8)));
+        for request in &lists.requests {
+            for list in [&request.families, &request.fallbacks] {
+                assert_eq!(list.len(), 255);
+                assert!((0..64).all(|family| list.contains(&family)));
+                assert_eq!(list.iter().filter(|family| **family >= 64).count(), 31);
+            }
+        }
+    }
+
+    /// The last offer of a long list is of one of its last fallbacks, so that
+    /// the whole list is walked for it.
+    #[test]
+    fn last_of_a_long_list() {
+        let asked = ask(sizes::lists(), 2).unwrap();
+        let job = jobs::layout::parts(&asked.job);
+        for (request, number) in calls(&asked, Which::Last) {
+            let mut out = [0; 40];
+            assert_eq!(exported::offer(&asked.job, request, number, &mut out), 0);
+            let known = job.requests[request as usize].fallbacks.iter();
+            let last = known.rev().find(|family| **family < 64);
+            assert_eq!(last, Some(&u16::from_be_bytes([out[0], out[1]])));
+        }
+    }
+
+    /// Offers spread over a list begin with the first and end with the last.
+    #[test]
+    fn spread_over_a_list() {
+        let asked = Asked {
+            job: Vec::new(),
+            lists: vec![(3, 91)],
+        };
+        let calls = calls(&asked, Which::Spread);
+        assert_eq!(calls.len(), SPREAD as usize);
+        assert_eq!((calls[0], calls[1], calls[15]), ((3, 0), (3, 6), (3, 90)));
     }
 }

@@ -117,6 +117,36 @@ pub fn large() -> Vec<u8> {
     write(&job).bytes
 }
 
+/// 255 family numbers that go through all 64 families, from the first one on;
+/// each eighth is unknown.
+fn long_list(first: usize) -> Vec<u16> {
+    let number = |i: usize| match i % 8 {
+        7 => 64 + i / 8,
+        _ => (first + i - i / 8) % 64,
+    };
+    (0..255).map(|i| number(i) as u16).collect()
+}
+
+/// 256 faces, 64 families of 4 to 8, 256 requests with 255 families and 255
+/// fallbacks each, cut by no most.
+pub fn lists() -> Vec<u8> {
+    let family = |number: usize| {
+        let places = 0..4 + number % 5;
+        places.map(move |place| ((4 * number + place) % 256) as u16)
+    };
+    let asked = |number: usize| Request {
+        most: u16::MAX,
+        ..request(number, &long_list(number), &long_list(number + 29))
+    };
+    let job = Job {
+        faces: faces(256, 0),
+        families: (0..64).map(|number| family(number).collect()).collect(),
+        requests: (0..256).map(asked).collect(),
+        ..Job::default()
+    };
+    write(&job).bytes
+}
+
 /// One family of the faces, one request.
 pub fn family(count: usize) -> Vec<u8> {
     let job = Job {
