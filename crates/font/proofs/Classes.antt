@@ -1,13 +1,12 @@
 -- Laws of the fields of OS/2 and `head`: the width classes, and the lowest bit.
 use Prim.Native.Nat.{ℕ, zero, suc, _/_, _%_, _≤_, _<_}
-use mathlib.Core.Path.{_≡_, refl, sym, _∙_}
-use mathlib.Core.Bool.{Bool}
+use mathlib.Core.Path.{_≡_, refl, _∙_}
 use mathlib.Core.List.{List, [], _∷_, map}
 use native.Mathlib.Omega.{arith}
 use native.Mathlib.Nat.{div-one}
 use lib.ListN.{length, getD, List·getD-map, List·getD-eq-default}
 use lib.Dec.{eqb}
-use lib.Ieee.{Float, nan}
+use lib.Ieee.{nan}
 use Rattle.font.specs.Reading.{bit, thousandths, classWidths, widthOfClass}
 
 -- what stands past the end of a list is not read within it

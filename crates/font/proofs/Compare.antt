@@ -7,7 +7,6 @@ use lib.Dec.{T, ltb, eqb, ltb→lt, lt→ltb, eqb→eq}
 use lib.IntN.{ℤ}
 use lib.Pow.{pow-pos}
 use lib.Ieee.{Float, nan, inf, fin, binary32, up, down, fits, isNan, below, level, lt, eq}
-use lib.Ieee.Scale.{finite}
 use lib.Ieee.Fits.{eq→eqb, down-pos}
 use borrow.Author.Tests.{lt-ltb, le-ltb, ne-eqb}
 use Rattle.font.specs.Nearest.{negative}
@@ -117,10 +116,6 @@ inf-inf-level true true = refl
 pub record Number (x : Float) : Type 0 where
   pub no-nan : T (not (isNan x))
   pub held : T (fits binary32 x)
-
-pub number-of-finite : (x : Float) → T (finite x) → T (fits binary32 x) → Number x
-unfolding isNan
-number-of-finite (fin s m e) h f = record { no-nan = tt; held = f }
 
 pub lt-in-steps : (x y : Float) → Number x → Number y → lt x y ≡ below (negative x) (steps x) (negative y) (steps y)
 unfolding isNan lt steps

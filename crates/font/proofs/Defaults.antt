@@ -1,4 +1,4 @@
--- Defaults that pairs of a tag and a value set: they change no other part of a face, and no axis's tag.
+-- Defaults that pairs of a tag and a value set: they change no other part of a face, and no axis's tag, minimum or maximum.
 use Prim.Native.Nat.{ℕ, zero, suc, _+_, _≤_}
 use mathlib.Core.Path.{_≡_, refl, sym, ap, _∙_}
 use mathlib.Core.Bool.{Bool, true, false, cond}
@@ -37,34 +37,43 @@ pub same-count : (f : FontInfo) (tags : List ℕ) (values : List Float) (k : ℕ
 unfolding withDefaults withAxes
 same-count f tags values k = refl
 
-tag-set : (xs : List AxisInfo) (j i : ℕ) (v : AxisInfo) → v .tag ≡ axisOf xs j .tag → axisOf (set xs j v) i .tag ≡ axisOf xs i .tag
-unfolding axisOf
-tag-set xs j i v e = go (eqb i j) (ltb j (length xs)) refl refl
-  where
-    go : (a b : Bool) → eqb i j ≡ a → ltb j (length xs) ≡ b → axisOf (set xs j v) i .tag ≡ axisOf xs i .tag
-    go false b s t = ap (λ (a : AxisInfo). a .tag) (getD-set-other xs j i v _ (eqb-false i j s))
-    go true true s t =
-        rw (eqb-true i j s) (ap (λ (a : AxisInfo). a .tag) (getD-set-same xs j v _ (ltb-true j (length xs) t)) ∙ e)
-    go true false s t =
-        let past = ltb-false j (length xs) t in
-        let here = eqb-true i j s in
-        let long : length (set xs j v) ≤ i = omega (arith, length-set xs j v) in
-        ap (λ (a : AxisInfo). a .tag) (List·getD-eq-default (set xs j v) _ long ∙ sym (List·getD-eq-default xs _ (omega arith)))
+-- a part of an axis that no default changes: its tag, its minimum, its maximum
+module _ {A : Type 0} (part : AxisInfo → A) (keeps : (a : AxisInfo) (x : Float) → part (withDefault a x) ≡ part a) where
+  part-set : (xs : List AxisInfo) (j i : ℕ) (x : Float) → part (axisOf (set xs j (withDefault (axisOf xs j) x)) i) ≡ part (axisOf xs i)
+  unfolding axisOf
+  part-set xs j i x = go (eqb i j) (ltb j (length xs)) refl refl
+    where
+      v : AxisInfo
+      v = withDefault (axisOf xs j) x
 
-pub tag-default : (xs : List AxisInfo) (n tag : ℕ) (x : Float) (i : ℕ) → axisOf (setDefault xs n tag x) i .tag ≡ axisOf xs i .tag
-unfolding setDefault withDefault
-tag-default xs n tag x i = go (ltb (firstAxis xs n tag) n)
-  where
-    go : (b : Bool) → axisOf (cond b (set xs (firstAxis xs n tag) (withDefault (axisOf xs (firstAxis xs n tag)) x)) xs) i .tag ≡ axisOf xs i .tag
-    go true = tag-set xs (firstAxis xs n tag) i (withDefault (axisOf xs (firstAxis xs n tag)) x) refl
-    go false = refl
+      go : (a b : Bool) → eqb i j ≡ a → ltb j (length xs) ≡ b → part (axisOf (set xs j v) i) ≡ part (axisOf xs i)
+      go false b s t = ap part (getD-set-other xs j i v _ (eqb-false i j s))
+      go true true s t = rw (eqb-true i j s) (ap part (getD-set-same xs j v _ (ltb-true j (length xs) t)) ∙ keeps (axisOf xs j) x)
+      go true false s t =
+          let past = ltb-false j (length xs) t in
+          let here = eqb-true i j s in
+          let long : length (set xs j v) ≤ i = omega (arith, length-set xs j v) in
+          ap part (List·getD-eq-default (set xs j v) _ long ∙ sym (List·getD-eq-default xs _ (omega arith)))
+
+  part-default : (xs : List AxisInfo) (n tag : ℕ) (x : Float) (i : ℕ) → part (axisOf (setDefault xs n tag x) i) ≡ part (axisOf xs i)
+  unfolding setDefault
+  part-default xs n tag x i = go (ltb (firstAxis xs n tag) n)
+    where
+      go : (b : Bool) → part (axisOf (cond b (set xs (firstAxis xs n tag) (withDefault (axisOf xs (firstAxis xs n tag)) x)) xs) i) ≡ part (axisOf xs i)
+      go true = part-set xs (firstAxis xs n tag) i x
+      go false = refl
+
+  pub part-defaults : (xs : List AxisInfo) (n : ℕ) (tags : List ℕ) (values : List Float) (k i : ℕ)
+      → part (axisOf (setDefaults xs n tags values k) i) ≡ part (axisOf xs i)
+  unfolding setDefaults
+  part-defaults xs n tags values zero i = refl
+  part-defaults xs n tags values (suc k) i =
+      part-default (setDefaults xs n tags values k) n (getD tags k 0) (getD values k nan) i ∙ part-defaults xs n tags values k i
 
 pub tag-defaults : (xs : List AxisInfo) (n : ℕ) (tags : List ℕ) (values : List Float) (k i : ℕ)
     → axisOf (setDefaults xs n tags values k) i .tag ≡ axisOf xs i .tag
-unfolding setDefaults
-tag-defaults xs n tags values zero i = refl
-tag-defaults xs n tags values (suc k) i =
-    tag-default (setDefaults xs n tags values k) n (getD tags k 0) (getD values k nan) i ∙ tag-defaults xs n tags values k i
+unfolding withDefault
+tag-defaults = part-defaults (λ (a : AxisInfo). a .tag) (λ a x. refl)
 
 -- so the first axis with a tag stays the first
 pub same-axis : (xs : List AxisInfo) (n : ℕ) (tags : List ℕ) (values : List Float) (k m tag : ℕ)

@@ -18,10 +18,6 @@ use Rattle.font.proofs.Tabulated.{element}
 
 -- ---- the refusal
 
-pub refusal-is : (font : List ℕ) → fromFontRef font .refusal ≡ fontRefusal font
-unfolding fromFontRef
-refusal-is font = refl
-
 -- it is one of the table's rows of a font, or none
 pub data OneOf (n : ℕ) : Type 0 where
   accepted : n ≡ 0 → OneOf n
@@ -53,11 +49,11 @@ few-stated font = go (directoryFits font) (hasIndex (charmapIndex font)) (leb (a
 
 -- ---- the face
 
-pub accepted-face : (font : List ℕ) → fontRefusal font ≡ 0 → fromFontRef font .font ≡ faceOf font
+accepted-face : (font : List ℕ) → fontRefusal font ≡ 0 → fromFontRef font .font ≡ faceOf font
 unfolding fromFontRef
 accepted-face font z = simp (eq-eqb (fontRefusal font) 0 z)
 
-pub refused-face : (font : List ℕ) → (fontRefusal font ≡ 0 → ⊥) → fromFontRef font .font ≡ emptyFont
+refused-face : (font : List ℕ) → (fontRefusal font ≡ 0 → ⊥) → fromFontRef font .font ≡ emptyFont
 unfolding fromFontRef
 refused-face font n = simp (ne-eqb (fontRefusal font) 0 n)
 

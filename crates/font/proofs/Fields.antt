@@ -1,6 +1,6 @@
 -- Laws of big-endian fields: what a field is where it lies whole in the bytes, and where it does not.
 use Prim.Native.Nat.{ℕ, _+_, _*_, _≤_, _<_}
-use mathlib.Core.Path.{_≡_, refl}
+use mathlib.Core.Path.{_≡_}
 use mathlib.Core.List.{List}
 use lib.ListN.{length, getD}
 use borrow.Author.Tests.{le-leb, lt-leb}

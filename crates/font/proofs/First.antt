@@ -1,14 +1,14 @@
--- Laws of `first` and `every`. Of `first`: it is at most the number of things, what it finds has the property, and nothing before it has.
+-- Laws of `first`, `every` and `some`. Of `first`: it is at most the number of things, what it finds has the property, and nothing before it has.
 use Prim.Native.Nat.{ℕ, zero, suc, _+_, _≤_, _<_}
 use mathlib.Core.Path.{_≡_, refl, sym, _∙_, ap}
-use mathlib.Core.Bool.{Bool, true, false, _&&_, cond}
+use mathlib.Core.Bool.{Bool, true, false, _&&_, _||_, cond}
 use mathlib.Core.Logic.{_⊎_, inl, inr, ⊎-elim}
 use native.Mathlib.Omega.{arith}
 use native.Mathlib.Decide.{le-ind}
 use native.Mathlib.Numerals.{add-one}
 use lib.Dec.{ltb}
 use borrow.Author.Tests.{lt-ltb, le-ltb, ltb-true, ltb-false}
-use Rattle.font.specs.First.{first, every}
+use Rattle.font.specs.First.{first, some, every}
 
 -- below n + 1 is below n, or n
 pub below-or-last : (k n : ℕ) → k < suc n → (k < n) ⊎ (k ≡ n)
@@ -128,3 +128,26 @@ every-fails p i (suc n) l e = ⊎-elim (λ h. rw (← every-fails p i n h e)) (�
     go : (b : Bool) → p n ≡ false → false ≡ b && p n
     go true q = sym q
     go false q = refl
+
+-- ---- `some`
+
+pub some-same : (p q : ℕ → Bool) (n : ℕ) → ((i : ℕ) → p i ≡ q i) → some p n ≡ some q n
+unfolding some
+some-same p q zero h = refl
+some-same p q (suc n) h = λ k. some-same p q n h k || h n k
+
+-- it fails exactly where p fails everywhere
+pub some-fails : (p : ℕ → Bool) (n : ℕ) → ((i : ℕ) → i < n → p i ≡ false) → some p n ≡ false
+unfolding some
+some-fails p zero h = refl
+some-fails p (suc n) h = rw (some-fails p n (λ i l. h i (omega arith)), h n (omega arith))
+
+pub all-fail : (p : ℕ → Bool) (n : ℕ) → some p n ≡ false → (i : ℕ) → i < n → p i ≡ false
+unfolding some
+all-fail p zero h i l = absurd (omega arith)
+all-fail p (suc n) h i l = go (some p n) (p n) refl refl h (λ e. all-fail p n e i)
+  where
+    go : (a b : Bool) → some p n ≡ a → p n ≡ b → (a || b) ≡ false → (some p n ≡ false → i < n → p i ≡ false) → p i ≡ false
+    go false false s e z back = ⊎-elim (λ g. back s g) (λ g. ap p g ∙ e) (below-or-last i n l)
+    go false true s e z back = absurd (let c : _≡_ {A = ℕ} 0 1 = cc in omega arith)
+    go true b s e z back = absurd (let c : _≡_ {A = ℕ} 0 1 = cc in omega arith)

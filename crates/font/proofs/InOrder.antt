@@ -3,13 +3,13 @@ use mathlib.Core.Path.{_≡_, refl, sym, ap, ap₂, _∙_}
 use mathlib.Core.Bool.{Bool, true, false, cond}
 use Prim.Native.Nat.{ℕ, zero, suc, _+_, _-_, _<_, _≤_, _^_}
 use native.Mathlib.Omega.{arith}
-use lib.Dec.{T, ltb}
-use lib.IntN.{ℤ, pos, negsuc, negℤ}
+use lib.Dec.{ltb}
+use lib.IntN.{pos, negℤ}
 use lib.Signed.{ltZ}
 use lib.Ieee.{Float, fin, binary32, toBits, lt, size}
 use lib.Ieee.Bits.{toBits-lt}
-use borrow.Author.Tests.{lt-ltb, le-ltb, ltb-true, ltb-false}
-use Rattle.font.specs.Single.{orderOfBits, orderNumber, keyOfBits, orderKey}
+use borrow.Author.Tests.{lt-ltb, le-ltb, ltb-false}
+use Rattle.font.specs.Single.{orderOfBits, orderNumber, keyOfBits}
 use Rattle.font.proofs.OrderKey.{key-of-bits}
 use Rattle.font.proofs.Compare.{Number, same-lt}
 use Rattle.font.proofs.Order.{orders-lt}

@@ -14,11 +14,12 @@ use Rattle.font.specs.declared.charmap.CharmapIndex.{CharmapIndex}
 use Rattle.font.specs.declared.charmap.Charmap.the-variants.{Missing, Index}
 use Rattle.font.specs.First.{first, leastBelow, firstLeast}
 use Rattle.font.specs.Tables.{u16At, findTable, partOf}
-use Rattle.font.specs.Charmap.{classOf, subtableOffset, qualifies, recordClass, bestClass, bestRecord, indexOf, indexIn, charmapIndex}
+use Rattle.font.specs.Charmap.{subtableOffset, liesIn, pairClass, qualifies, recordClass, someQualifies, bestClass, bestRecord, indexOf, indexIn, charmapIndex}
 use Rattle.font.specs.declared.charmap.Charmap.{Charmap}
 use Rattle.font.specs.Font.{emptyFont, faceOf, indexOr, noIndex, fromFontRef}
 use Rattle.font.proofs.First.{holds}
 use Rattle.font.proofs.Least.{Best, best-start, best-new, best-kept}
+use Rattle.font.proofs.Records.{best-qualifies}
 use Rattle.font.proofs.Lookup.{within}
 use Rattle.font.proofs.FaceOf.{each-face}
 
@@ -46,15 +47,15 @@ attained top f n l =
 
 -- a record with a class has its subtable's two bytes in the table
 of-class : (cmap : List ℕ) (i : ℕ) → recordClass cmap i < 4 → subtableOffset cmap i + 2 ≤ length cmap
-unfolding recordClass qualifies
-of-class cmap i = go (leb (12 + 8 * i) (length cmap)) (leb (subtableOffset cmap i + 2) (length cmap)) refl
+unfolding recordClass qualifies liesIn
+of-class cmap i = go (leb (12 + 8 * i) (length cmap)) (leb (subtableOffset cmap i + 2) (length cmap)) (ltb (pairClass cmap i) 4) refl
   where
-    go : (a b : Bool) → leb (subtableOffset cmap i + 2) (length cmap) ≡ b
-        → cond (a && b) (classOf (u16At cmap (4 + 8 * i)) (u16At cmap (6 + 8 * i))) 4 < 4
+    go : (a b c : Bool) → leb (subtableOffset cmap i + 2) (length cmap) ≡ b
+        → cond ((a && b) && c) (pairClass cmap i) 4 < 4
         → subtableOffset cmap i + 2 ≤ length cmap
-    go true true e l = leb-true (subtableOffset cmap i + 2) (length cmap) e
-    go true false e l = absurd (omega arith)
-    go false b e l = absurd (omega arith)
+    go true true c e l = leb-true (subtableOffset cmap i + 2) (length cmap) e
+    go true false c e l = absurd (omega arith)
+    go false b c e l = absurd (omega arith)
 
 of-best : (cmap : List ℕ) → bestClass cmap < 4 → subtableOffset cmap (bestRecord cmap) + 2 ≤ length cmap
 unfolding bestClass bestRecord
@@ -64,20 +65,20 @@ of-best cmap low =
 
 in-table : (offset : ℕ) (cmap : List ℕ) (i : CharmapIndex) → indexOf offset cmap ≡ Index i → i .«subtable_offset» + 2 ≤ offset + length cmap
 unfolding indexOf
-in-table offset cmap i = go (ltb (bestClass cmap) 4) refl
+in-table offset cmap i = go (someQualifies cmap) refl
   where
     index : CharmapIndex
     index = record { «subtable_offset» = offset + subtableOffset cmap (bestRecord cmap); «is_symbol» = eqb (bestClass cmap) 2; «is_mac_roman» = eqb (bestClass cmap) 3 }
 
-    go : (b : Bool) → ltb (bestClass cmap) 4 ≡ b → cond b (Index index) Missing ≡ Index i → i .«subtable_offset» + 2 ≤ offset + length cmap
+    go : (b : Bool) → someQualifies cmap ≡ b → cond b (Index index) Missing ≡ Index i → i .«subtable_offset» + 2 ≤ offset + length cmap
     go true e h =
         let here : index ≡ i = cc in
-        let low : bestClass cmap < 4 = ltb-true (bestClass cmap) 4 e in
+        let low : bestClass cmap < 4 = ltb-true (bestClass cmap) 4 (best-qualifies cmap ∙ e) in
         omega (arith, ap (λ (x : CharmapIndex). x .«subtable_offset») here, of-best cmap low)
     go false e h = absurd (let z : _≡_ {A = ℕ} 0 1 = cc in omega arith)
 
 -- the index of a font is that of a subtable in it
-pub index-inside : (font : List ℕ) (i : CharmapIndex) → charmapIndex font ≡ Index i → i .«subtable_offset» + 2 ≤ length font
+index-inside : (font : List ℕ) (i : CharmapIndex) → charmapIndex font ≡ Index i → i .«subtable_offset» + 2 ≤ length font
 unfolding charmapIndex indexIn partOf
 index-inside font i = go (findTable font 0x636D6170 4) refl
   where

@@ -1,18 +1,18 @@
 -- Laws of `leastBelow`, and of the first thing that has the least value, for a loop that keeps both.
 use Prim.Native.Nat.{ℕ, zero, suc, _+_, _≤_, _<_, min}
 use mathlib.Core.Path.{_≡_, refl, sym, _∙_, ap}
-use mathlib.Core.Bool.{Bool, true, false, cond}
+use mathlib.Core.Bool.{Bool, true, false, _||_}
 use mathlib.Core.Logic.{⊎-elim}
 use native.Mathlib.Omega.{arith}
 use native.Mathlib.Decide.{le-ind}
 use native.Mathlib.Numerals.{add-one}
-use lib.Dec.{eqb}
-use borrow.Author.Tests.{eq-eqb, ne-eqb}
-use Rattle.font.specs.First.{first, leastBelow, firstLeast}
+use lib.Dec.{ltb, eqb}
+use borrow.Author.Tests.{lt-ltb, le-ltb, ltb-true, ltb-false, eq-eqb, ne-eqb}
+use Rattle.font.specs.First.{first, some, leastBelow, firstLeast}
 use Rattle.font.proofs.First.{none, keep, found, below-or-last}
 
 module _ (top : ℕ) (f : ℕ → ℕ) where
-  pub below-top : (n : ℕ) → leastBelow top f n ≤ top
+  below-top : (n : ℕ) → leastBelow top f n ≤ top
   unfolding leastBelow
   below-top zero = omega arith
   below-top (suc n) = omega (arith, below-top n)
@@ -63,9 +63,23 @@ module _ (top : ℕ) (f : ℕ → ℕ) where
       le-ind (λ k. Best k c b) w (λ k g e. rw (← add-one k) (best-kept k c b e (omega (arith, h k g, below-top k, e .least)))) n l
 
   -- what the loop ends with
-  pub best-is : (n c b : ℕ) → Best n c b → c < top → b ≡ firstLeast top f n
+  best-is : (n c b : ℕ) → Best n c b → c < top → b ≡ firstLeast top f n
   unfolding firstLeast
   best-is n c b h l = h .first-of l ∙ ap (λ x. first (λ k. eqb (f k) x) n) (h .least)
 
   pub best-done : (n c b : ℕ) → Best n c b → (c ≡ leastBelow top f n) × (c < top → b ≡ firstLeast top f n)
   best-done n c b h = (h .least, best-is n c b h)
+
+-- the least value is below the top where some value is
+pub some-below : (top : ℕ) (f : ℕ → ℕ) (n : ℕ) → ltb (leastBelow top f n) top ≡ some (λ i. ltb (f i) top) n
+unfolding leastBelow some
+some-below top f zero = le-ltb top top (omega arith)
+some-below top f (suc n) = rw (← some-below top f n) (either (leastBelow top f n) (f n))
+  where
+    either : (a b : ℕ) → ltb (min a b) top ≡ (ltb a top || ltb b top)
+    either a b = go (ltb a top) (ltb b top) refl refl
+      where
+        go : (s t : Bool) → ltb a top ≡ s → ltb b top ≡ t → ltb (min a b) top ≡ (s || t)
+        go true t p q = lt-ltb (min a b) top (omega (arith, ltb-true a top p))
+        go false true p q = lt-ltb (min a b) top (omega (arith, ltb-true b top q))
+        go false false p q = le-ltb (min a b) top (omega (arith, ltb-false a top p, ltb-false b top q))

@@ -26,7 +26,11 @@ pub mod Records
 pub mod Inside
 pub mod Classes
 pub mod FaceOf
+pub mod Qualifying
+pub mod FieldReadings
+pub mod AnyReading
 -- Section 3: overrides.
 pub mod Defaults
 pub mod Refusals
+pub mod Pairs
 pub mod Accepted

@@ -1,6 +1,6 @@
 -- Laws of table lookup: a found table lies in the file and has the bytes that were asked for, and its part of the file is handed out.
-use Prim.Native.Nat.{ℕ, _+_, _*_, _-_, _≤_, _<_}
-use mathlib.Core.Path.{_≡_, refl, sym, ap, _∙_}
+use Prim.Native.Nat.{ℕ, _+_, _*_, _-_, _≤_}
+use mathlib.Core.Path.{_≡_, refl, _∙_}
 use mathlib.Core.Bool.{Bool, true, false, _&&_, cond}
 use mathlib.Core.List.{List, []}
 use native.Mathlib.Omega.{arith}
@@ -8,7 +8,6 @@ use native.Mathlib.Nat.{add-sub-cancel-left}
 use lib.ListN.{length, take, drop}
 use lib.Dec.{leb, ltb}
 use borrow.Author.Tests.{leb-true}
-use Rattle.font.specs.declared.tables.Table.{Table}
 use Rattle.font.specs.declared.tables.Table.the-variants.{Absent, Found}
 use Rattle.font.specs.Tables.{tableOfRecord, findTable, partOf, tableData, recordLength, recordOffset, firstRecord, directoryFits, startsAsFont, u32At, recordCount}
 

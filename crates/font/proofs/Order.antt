@@ -1,22 +1,21 @@
 -- The order number orders singles as IEEE 754 compares them, and both zeros have one. For all singles x and y that are no NaN,
--- `lt`, `eq` and `le` are the comparisons of the carried order numbers (`orders-lt`, `orders-eq`, `orders-le`; `Number` of `Compare.antt` is such an x, as each finite one is). That the carried number is the order number raised by 2 ^ 31 is `raised` of `OrderKey.antt`. Assumes nothing.
+-- `lt`, `eq` and `le` are the comparisons of the carried order numbers (`orders-lt`, `orders-eq`, `orders-le`; `Number` of `Compare.antt` is such an x). That the carried number is the order number raised by 2 ^ 31 is `raised` of `OrderKey.antt`. Assumes nothing.
 use mathlib.Core.Path.{_≡_, refl, sym, ap, ap₂, _∙_, subst}
 use mathlib.Core.Bool.{Bool, true, false, _&&_, _||_, cond}
 use mathlib.Core.Logic.{inl, inr}
 use Prim.Native.Nat.{ℕ, _+_, _-_, _<_, _≤_, _^_}
 use native.Mathlib.Nat.{lt-of-not-le, lt-irrefl, eq-or-lt-of-le, eq-zero-or-pos, le-antisymm, le-of-eq, le-of-lt}
 use native.Mathlib.Omega.{arith}
-use lib.Dec.{T, ltb, leb, eqb, leb→le, le→leb, eqb→eq, lit≤, lit<}
+use lib.Dec.{ltb, leb, eqb, leb→le, le→leb, eqb→eq, lit≤}
 use lib.IntN.{pos}
-use lib.Ieee.{Float, nan, inf, fin, binary32, fits, isNan, toBits, ofBits, below, level, lt, eq, le, size}
-use lib.Ieee.Bits.{ofBits-toBits}
+use lib.Ieee.{Float, fin, binary32, isNan, toBits, below, level, lt, eq, le, size}
 use lib.Ieee.Fits.{eq→eqb, and-i, and-l, and-r}
 use borrow.Author.Tests.{le-ltb, le-leb, ltb-true, ltb-false}
 use Rattle.font.specs.Single.{orderKey, keyOfBits}
 use Rattle.font.proofs.Pattern.{pattern, Steps, pattern-mono, pattern-zero, pattern-under}
 use Rattle.font.specs.Nearest.{negative}
 use Rattle.font.proofs.Steps.{steps, bits-of, steps-of}
-use Rattle.font.proofs.OrderKey.{key-of-nan, key-low, key-high}
+use Rattle.font.proofs.OrderKey.{key-low, key-high}
 use Rattle.font.proofs.Compare.{same, same-lt, same-eq, Number, lt-in-steps, eq-in-steps}
 
 -- ---- the carried order number, by the sign and the pattern of the magnitude
@@ -128,43 +127,7 @@ module _ (x y : Float) (X : Number x) (Y : Number y) where
   unfolding le
   orders-le = ap₂ _||_ orders-lt orders-eq ∙ or-leb (orderKey x) (orderKey y)
 
-  -- one order number is one number, and with the sign one value: only the two zeros share theirs
-  pub one-key-eq : orderKey x ≡ orderKey y → T (eq x y)
-  one-key-eq h = subst T (sym orders-eq) (eq→eqb h)
-
-  pub one-key-same : orderKey x ≡ orderKey y → negative x ≡ negative y → x ≡ y
-  one-key-same h s = sym (ofBits-toBits binary32 x (X .held)) ∙ ap (ofBits binary32) bits ∙ ofBits-toBits binary32 y (Y .held)
-    where
-      p : ℕ
-      p = pattern (steps x)
-
-      q : ℕ
-      q = pattern (steps y)
-
-      patterns : (t : Bool) → key t p ≡ key t q → p ≡ q
-      patterns true e = omega (arith, e, pattern-under (steps x) (steps-of x (X .no-nan) (X .held)), pattern-under (steps y) (steps-of y (Y .no-nan) (Y .held)))
-      patterns false e = omega (arith, e)
-
-      bits : toBits binary32 x ≡ toBits binary32 y
-      bits =
-          bits-of x (X .no-nan)
-          ∙ ap₂ (λ (t : Bool) (z : ℕ). cond t (2 ^ 31) 0 + z) s (patterns (negative y) (ap (λ (t : Bool). key t p) (sym s) ∙ sym (key-is x X) ∙ h ∙ key-is y Y))
-          ∙ sym (bits-of y (Y .no-nan))
-
 pub key-of-zero : (s : Bool) → orderKey (fin s 0 (pos 0)) ≡ 2 ^ 31
 unfolding orderKey keyOfBits isNan toBits size
 key-of-zero true = refl
 key-of-zero false = refl
-
-key-under-number : (x : Float) → Number x → orderKey x < 2 ^ 32
-key-under-number x X = subst (λ (z : ℕ). z < 2 ^ 32) (sym (key-is x X)) (go (negative x))
-  where
-    go : (s : Bool) → key s (pattern (steps x)) < 2 ^ 32
-    go true = omega arith
-    go false = omega (arith, pattern-under (steps x) (steps-of x (X .no-nan) (X .held)))
-
-pub key-under : (x : Float) → T (fits binary32 x) → orderKey x < 2 ^ 32
-unfolding isNan
-key-under nan f = subst (λ (z : ℕ). z < 2 ^ 32) (sym key-of-nan) (lit< tt)
-key-under (inf s) f = key-under-number (inf s) (record { no-nan = tt; held = f })
-key-under (fin s m e) f = key-under-number (fin s m e) (record { no-nan = tt; held = f })

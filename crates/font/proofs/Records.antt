@@ -1,25 +1,26 @@
 -- Laws of `cmap` records.
 use Prim.Native.Nat.{ℕ, _+_, _*_, _≤_, _<_}
-use mathlib.Core.Path.{_≡_, refl, sym}
-use mathlib.Core.Bool.{Bool, true, false, cond}
+use mathlib.Core.Path.{_≡_, refl, sym, _∙_}
+use mathlib.Core.Bool.{Bool, true, false, _&&_, _||_, cond}
 use mathlib.Core.List.{List}
 use native.Mathlib.Omega.{arith}
 use lib.ListN.{length}
-use lib.Dec.{ltb}
-use borrow.Author.Tests.{lt-leb, lt-ltb, le-ltb}
+use lib.Dec.{leb, ltb, eqb}
+use borrow.Author.Tests.{le-leb, lt-leb, lt-ltb, le-ltb, ltb-false}
 use Rattle.font.specs.declared.tables.Table.{Table}
 use Rattle.font.specs.declared.tables.Table.the-variants.{Absent, Found}
 use Rattle.font.specs.declared.charmap.CharmapIndex.{CharmapIndex}
 use Rattle.font.specs.declared.charmap.Charmap.the-variants.{Missing, Index}
-use Rattle.font.specs.First.{leastBelow}
+use Rattle.font.specs.First.{some}
 use Rattle.font.specs.Tables.{u16At, findTable, partOf, tableData}
-use Rattle.font.specs.Charmap.{recordClass, qualifies, bestClass, indexOf, indexIn, charmapIndex}
+use Rattle.font.specs.Charmap.{isPair, classOf, subtableOffset, liesIn, pairClass, qualifies, recordClass, someQualifies, bestClass, indexOf, indexIn, charmapIndex}
 use Rattle.font.specs.Font.{hasIndex}
-use Rattle.font.proofs.Least.{Best, best-rest, at-most}
+use Rattle.font.proofs.First.{some-same}
+use Rattle.font.proofs.Least.{Best, best-rest, at-most, some-below}
 
 -- a record that does not lie in the table has no class
-past : (cmap : List ℕ) (k : ℕ) → length cmap < 12 + 8 * k → recordClass cmap k ≡ 4
-unfolding recordClass qualifies
+pub past : (cmap : List ℕ) (k : ℕ) → length cmap < 12 + 8 * k → recordClass cmap k ≡ 4
+unfolding recordClass qualifies liesIn
 past cmap k h = simp (lt-leb (12 + 8 * k) (length cmap) h)
 
 -- the best record of those before such a one is the best of all
@@ -27,32 +28,69 @@ pub best-before : (cmap : List ℕ) (m n c b : ℕ) → length cmap < 12 + 8 * m
     → Best 4 (recordClass cmap) n c b
 best-before cmap m n c b h l w = best-rest 4 (recordClass cmap) m n c b l (λ k g. omega (arith, past cmap k (omega arith))) w
 
+-- ---- the class of a record
+
+class-at-most : (p e : ℕ) → classOf p e ≤ 4
+unfolding classOf
+class-at-most p e = go (isPair p e 3 10 || (isPair p e 0 4 || isPair p e 0 6)) (isPair p e 3 1 || (eqb p 0 && leb e 3)) (isPair p e 3 0) (isPair p e 1 0)
+  where
+    go : (a b c d : Bool) → cond a 0 (cond b 1 (cond c 2 (cond d 3 4))) ≤ 4
+    go true b c d = omega arith
+    go false true c d = omega arith
+    go false false true d = omega arith
+    go false false false true = omega arith
+    go false false false false = omega arith
+
+-- of a record that lies in the table, as two bytes at its offset do, it is its pair's
+pub class-in : (cmap : List ℕ) (i : ℕ) → 12 + 8 * i ≤ length cmap → subtableOffset cmap i + 2 ≤ length cmap → recordClass cmap i ≡ pairClass cmap i
+unfolding recordClass qualifies liesIn pairClass
+class-in cmap i h l = rw (le-leb (12 + 8 * i) (length cmap) h, le-leb (subtableOffset cmap i + 2) (length cmap) l) (go (ltb (pairClass cmap i) 4) refl)
+  where
+    go : (b : Bool) → ltb (pairClass cmap i) 4 ≡ b → cond b (pairClass cmap i) 4 ≡ pairClass cmap i
+    go true e = refl
+    go false e = omega (arith, ltb-false (pairClass cmap i) 4 e, class-at-most (u16At cmap (4 + 8 * i)) (u16At cmap (6 + 8 * i)))
+
+-- a record has a class exactly where it qualifies
+has-class : (cmap : List ℕ) (i : ℕ) → ltb (recordClass cmap i) 4 ≡ qualifies cmap i
+unfolding recordClass qualifies
+has-class cmap i = go (liesIn cmap i) (ltb (pairClass cmap i) 4) refl
+  where
+    go : (a b : Bool) → ltb (pairClass cmap i) 4 ≡ b → ltb (cond (a && b) (pairClass cmap i) 4) 4 ≡ (a && b)
+    go true true e = e
+    go true false e = refl
+    go false b e = refl
+
 -- ---- whether there is a best record
 
+-- there is one exactly where some record qualifies
+pub best-qualifies : (cmap : List ℕ) → ltb (bestClass cmap) 4 ≡ someQualifies cmap
+unfolding bestClass someQualifies
+best-qualifies cmap = some-below 4 (recordClass cmap) (u16At cmap 2) ∙ some-same (λ i. ltb (recordClass cmap i) 4) (qualifies cmap) (u16At cmap 2) (has-class cmap)
+
 -- a record that has a class
-pub some-class : (cmap : List ℕ) (i : ℕ) → i < u16At cmap 2 → recordClass cmap i < 4 → true ≡ ltb (bestClass cmap) 4
+pub some-class : (cmap : List ℕ) (i : ℕ) → i < u16At cmap 2 → recordClass cmap i < 4 → true ≡ someQualifies cmap
 unfolding bestClass
-some-class cmap i l h = sym (lt-ltb (bestClass cmap) 4 (omega (arith, at-most 4 (recordClass cmap) (u16At cmap 2) i l)))
+some-class cmap i l h = sym (lt-ltb (bestClass cmap) 4 (omega (arith, at-most 4 (recordClass cmap) (u16At cmap 2) i l))) ∙ best-qualifies cmap
 
 -- no record has one
-pub no-class : (cmap : List ℕ) (b : ℕ) → Best 4 (recordClass cmap) (u16At cmap 2) 4 b → false ≡ ltb (bestClass cmap) 4
+pub no-class : (cmap : List ℕ) (b : ℕ) → Best 4 (recordClass cmap) (u16At cmap 2) 4 b → false ≡ someQualifies cmap
 unfolding bestClass
-no-class cmap b h = sym (le-ltb (bestClass cmap) 4 (omega (arith, h .least)))
+no-class cmap b h = sym (le-ltb (bestClass cmap) 4 (omega (arith, h .least))) ∙ best-qualifies cmap
 
--- a table gives an index where its best record has a class
-table-has : (offset : ℕ) (cmap : List ℕ) → hasIndex (indexOf offset cmap) ≡ ltb (bestClass cmap) 4
+-- a table gives an index where a record qualifies
+pub table-has : (offset : ℕ) (cmap : List ℕ) → hasIndex (indexOf offset cmap) ≡ someQualifies cmap
 unfolding hasIndex indexOf
-table-has offset cmap = go (ltb (bestClass cmap) 4) _
+table-has offset cmap = go (someQualifies cmap) _
   where
     go : (b : Bool) (index : CharmapIndex) → hasIndex (cond b (Index index) Missing) ≡ b
     go true index = refl
     go false index = refl
 
 -- so does a font; an absent table has no records
-pub font-has : (font : List ℕ) → hasIndex (charmapIndex font) ≡ ltb (bestClass (tableData font 0x636D6170 4)) 4
-unfolding hasIndex charmapIndex indexIn tableData partOf bestClass leastBelow u16At
+pub font-has : (font : List ℕ) → hasIndex (charmapIndex font) ≡ someQualifies (tableData font 0x636D6170 4)
+unfolding hasIndex charmapIndex indexIn tableData partOf someQualifies some u16At
 font-has font = go (findTable font 0x636D6170 4)
   where
-    go : (t : Table) → hasIndex (indexIn font t) ≡ ltb (bestClass (partOf font t)) 4
+    go : (t : Table) → hasIndex (indexIn font t) ≡ someQualifies (partOf font t)
     go Absent = refl
     go (Found offset len) = table-has offset (partOf font (Found offset len))

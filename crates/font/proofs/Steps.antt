@@ -1,13 +1,12 @@
 -- What a single is made of: its sign, and its magnitude in steps of 2 ^ -149 (`Pattern.antt`). Its bits, its whole part and its order follow from the two. Assumes nothing.
-use mathlib.Core.Path.{_≡_, refl, sym, ap, _∙_, subst}
-use mathlib.Core.Bool.{Bool, false, not, _&&_, cond}
+use mathlib.Core.Path.{_≡_, refl, sym, subst}
+use mathlib.Core.Bool.{Bool, not, _&&_, cond}
 use Prim.Native.Nat.{ℕ, zero, suc, _+_, _-_, _*_, _/_, _%_, _^_, _≤_, _<_}
-use native.Mathlib.Nat.{mul-assoc, mul-one, mul-right-comm, zero-mul, add-assoc, mul-pos, mul-le-mul-right, mul-lt-mul-of-pos-right, lt-of-mul-lt-mul-right, le-of-lt, le-of-eq, le-trans, le-refl, lt-irrefl, lt-of-not-le, lt-of-lt-of-le, le-of-suc-le-suc, div-eq-of-eq-mul-left, one-mul}
+use native.Mathlib.Nat.{mul-right-comm, zero-mul, add-assoc, mul-pos, mul-le-mul-right, mul-lt-mul-of-pos-right, lt-of-mul-lt-mul-right, le-of-lt, le-of-eq, le-trans, le-refl, div-eq-of-eq-mul-left, one-mul}
 use lib.Dec.{T, eqb, leb, ltb, lit<, eqb→eq, ltb→lt, leb→le}
-use lib.IntN.{ℤ, pos, negsuc}
-use lib.Pow.{pow-add, pow-pos, pow-lt}
+use lib.IntN.{ℤ}
+use lib.Pow.{pow-pos}
 use lib.Ieee.{Float, nan, inf, fin, binary32, up, down, fits, isNan, toBits, size}
-use lib.Ieee.Digits.{back}
 use lib.Ieee.Fits.{and-l, and-r, up-pos, down-pos}
 use Rattle.font.specs.Nearest.{negative}
 use Rattle.font.proofs.Scaled.{in-units}

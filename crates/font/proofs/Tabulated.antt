@@ -1,12 +1,10 @@
 -- Laws of `tabulate`: its length, its elements, and a store into it, for a loop that fills a list from the front.
-use Prim.Native.Nat.{ℕ, zero, suc, _+_, _≤_, _<_}
+use Prim.Native.Nat.{ℕ, zero, suc, _+_, _<_}
 use mathlib.Core.Path.{_≡_, refl, sym, _∙_, ap}
 use mathlib.Core.Bool.{Bool, true, false, cond}
-use mathlib.Core.List.{List, [], _∷_, _++_}
+use mathlib.Core.List.{[], _∷_, _++_}
 use mathlib.Core.Logic.{⊎-elim, _≢_}
 use native.Mathlib.Omega.{arith}
-use native.Mathlib.Numerals.{add-one}
-use native.Mathlib.Nat.{add-zero}
 use lib.ListN.{length, getD, set, length-append, length-set, List·getD-append}
 use lib.Seq.{getD-append-seam, getD-set-same, getD-set-other, ext-getD}
 use lib.Dec.{ltb, eqb}
@@ -35,7 +33,7 @@ module _ {A : Type 0} where
       (λ i l. let b : i < n = omega (arith, length-is f n) in element f n i d b ∙ h i b ∙ sym (element g n i d b))
 
   -- a store at i
-  pub stored : (f g : ℕ → A) (n i : ℕ) (d : A) → i < n → ((k : ℕ) → k ≢ i → f k ≡ g k) → set (tabulate f n) i (g i) ≡ tabulate g n
+  stored : (f g : ℕ → A) (n i : ℕ) (d : A) → i < n → ((k : ℕ) → k ≢ i → f k ≡ g k) → set (tabulate f n) i (g i) ≡ tabulate g n
   stored f g n i d h others =
       ext-getD d (set (tabulate f n) i (g i)) (tabulate g n)
       (length-set (tabulate f n) i (g i) ∙ length-is f n ∙ sym (length-is g n))

@@ -4,13 +4,12 @@ use mathlib.Core.Path.{_≡_, refl, sym, ap, _∙_, subst}
 use mathlib.Core.Logic.{_⊎_, inl, inr, ⊎-elim}
 use mathlib.Core.Bool.{Bool, _&&_, cond}
 use Prim.Native.Nat.{ℕ, zero, suc, _+_, _-_, _*_, _/_, _%_, _^_, _≤_, _<_}
-use native.Mathlib.Nat.{le-refl, le-trans, le-of-eq, le-of-suc-le-suc, lt-of-lt-of-le, lt-of-not-le, not-le-of-lt, lt-irrefl, eq-or-lt-of-le, eq-zero-or-pos, le-antisymm, add-assoc, zero-mul, mul-one, mul-assoc, mul-le-mul, mul-le-mul-right, mul-div-cancel, pow-suc, pow-succ', suc-mul, div-lt-iff-lt-mul}
+use native.Mathlib.Nat.{le-refl, le-trans, le-of-eq, lt-of-lt-of-le, lt-of-not-le, not-le-of-lt, eq-or-lt-of-le, eq-zero-or-pos, le-antisymm, add-assoc, zero-mul, mul-assoc, mul-le-mul, mul-le-mul-right, mul-div-cancel, pow-suc, pow-succ', suc-mul, div-lt-iff-lt-mul}
 use native.Mathlib.Omega.{arith}
-use lib.IntN.{ℤ, pos, negsuc}
 use lib.Dec.{T, ltb, leb, eqb, ltb→lt, leb→le}
 use lib.Pow.{pow-add, pow-pos, pow-mono, pow-lt, shl-lt}
 use lib.Ieee.{Float, nan, inf, fin, Format, prec, emax, low, up, down, size, round, fits, hid, top, toBits}
-use lib.Ieee.Digits.{back, size-lt, size-le}
+use lib.Ieee.Digits.{size-lt, size-le}
 use lib.Ieee.Fits.{two, two-le-pos, round-is, down-pos, and-l, and-r}
 use lib.Ieee.Exact.{HasValue, units-val}
 use lib.Ieee.Order.{drop, kept}

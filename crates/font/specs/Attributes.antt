@@ -4,8 +4,6 @@ use lib.Ieee.{Float}
 use lib.Ieee.Scale.{finite}
 use Rattle.font.specs.declared.attributes.Angle.{Angle}
 use Rattle.font.specs.declared.attributes.FontStyle.{FontStyle}
-use Rattle.font.specs.declared.attributes.FontWidth.{FontWidth}
-use Rattle.font.specs.declared.attributes.FontWeight.{FontWeight}
 use Rattle.font.specs.declared.attributes.Attributes.{Attributes}
 use Rattle.font.specs.declared.attributes.Angle.the-variants.{Unstated, Degrees}
 use Rattle.font.specs.declared.attributes.FontStyle.the-variants.{Normal, Italic, Oblique}

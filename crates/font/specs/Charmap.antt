@@ -1,15 +1,15 @@
 -- Section 2, `cmap`: the charmap index, from OpenType's "cmap - Character to Glyph Index Mapping Table".
-use Prim.Native.Nat.{ℕ, _+_, _*_}
-use mathlib.Core.Bool.{Bool, true, false, _&&_, _||_, cond}
+use Prim.Native.Nat.{ℕ, _+_, _*_, _<_}
+use mathlib.Core.Path.{_≡_}
+use mathlib.Core.Bool.{Bool, false, _&&_, _||_, cond}
 use mathlib.Core.List.{List}
 use lib.ListN.{length}
 use lib.Dec.{leb, ltb, eqb}
 use Rattle.font.specs.declared.tables.Table.{Table}
 use Rattle.font.specs.declared.tables.Table.the-variants.{Absent, Found}
-use Rattle.font.specs.declared.charmap.CharmapIndex.{CharmapIndex}
 use Rattle.font.specs.declared.charmap.Charmap.{Charmap}
 use Rattle.font.specs.declared.charmap.Charmap.the-variants.{Missing, Index}
-use Rattle.font.specs.First.{leastBelow, firstLeast}
+use Rattle.font.specs.First.{some, leastBelow, firstLeast}
 use Rattle.font.specs.Tables.{u16At, u32At, findTable, partOf}
 
 -- "Best first: (3,10), (0,4) or (0,6); then (3,1) or (0,0) to (0,3); then (3,0), symbol; then (1,0), Mac Roman."
@@ -29,12 +29,24 @@ classOf p e =
 unfoldable pub subtableOffset : List ℕ → ℕ → ℕ
 subtableOffset cmap i = u32At cmap (8 + 8 * i)
 
--- "A record qualifies if it lies in the table and two bytes at its offset do too."
+-- "it lies in the table and two bytes at its offset do too"
+unfoldable pub liesIn : List ℕ → ℕ → Bool
+liesIn cmap i = leb (12 + 8 * i) (length cmap) && leb (subtableOffset cmap i + 2) (length cmap)
+
+-- the class of a record's platform and encoding
+unfoldable pub pairClass : List ℕ → ℕ → ℕ
+pairClass cmap i = classOf (u16At cmap (4 + 8 * i)) (u16At cmap (6 + 8 * i))
+
+-- "A record qualifies if it lies in the table and two bytes at its offset do too." One whose pair is in no class, as (3,2), does not.
 unfoldable pub qualifies : List ℕ → ℕ → Bool
-qualifies cmap i = leb (12 + 8 * i) (length cmap) && leb (subtableOffset cmap i + 2) (length cmap)
+qualifies cmap i = liesIn cmap i && ltb (pairClass cmap i) 4
 
 unfoldable pub recordClass : List ℕ → ℕ → ℕ
-recordClass cmap i = cond (qualifies cmap i) (classOf (u16At cmap (4 + 8 * i)) (u16At cmap (6 + 8 * i))) 4
+recordClass cmap i = cond (qualifies cmap i) (pairClass cmap i) 4
+
+-- whether a record of the table qualifies
+unfoldable pub someQualifies : List ℕ → Bool
+someQualifies cmap = some (qualifies cmap) (u16At cmap 2)
 
 -- "Best first ..; within a class the first." Where no record qualifies the class is 4.
 unfoldable pub bestClass : List ℕ → ℕ
@@ -46,7 +58,7 @@ bestRecord cmap = firstLeast 4 (recordClass cmap) (u16At cmap 2)
 -- "The index is the file offset of that subtable and the two flags." The table lies at `offset` in the file.
 unfoldable pub indexOf : ℕ → List ℕ → Charmap
 indexOf offset cmap =
-    cond (ltb (bestClass cmap) 4)
+    cond (someQualifies cmap)
     (Index
     (record {
       «subtable_offset» = offset + subtableOffset cmap (bestRecord cmap);
@@ -62,3 +74,9 @@ indexIn font (Found offset len) = indexOf offset (partOf font (Found offset len)
 -- `cmap`, at least 4 bytes
 unfoldable pub charmapIndex : List ℕ → Charmap
 charmapIndex font = indexIn font (findTable font 0x636D6170 4)
+
+-- "no qualifying `cmap` record", the condition of refusal 22: where a font has the table, none of its records qualifies
+abbrev pub NoneQualifies : List ℕ → Type 0
+NoneQualifies font =
+    (offset len : ℕ) → findTable font 0x636D6170 4 ≡ Found offset len
+    → (i : ℕ) → i < u16At (partOf font (Found offset len)) 2 → qualifies (partOf font (Found offset len)) i ≡ false

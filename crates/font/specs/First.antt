@@ -1,6 +1,6 @@
 -- The first of some numbered things that has a property, and the least value among them.
 use Prim.Native.Nat.{ℕ, zero, suc, min}
-use mathlib.Core.Bool.{Bool, true, _&&_, cond}
+use mathlib.Core.Bool.{Bool, true, false, _&&_, _||_, cond}
 use mathlib.Core.List.{List, [], _∷_, _++_}
 use lib.Dec.{ltb, eqb}
 
@@ -13,6 +13,11 @@ first p (suc n) = cond (ltb (first p n) n) (first p n) (cond (p n) n (suc n))
 unfoldable pub leastBelow : ℕ → (ℕ → ℕ) → ℕ → ℕ
 leastBelow top f zero = top
 leastBelow top f (suc n) = min (leastBelow top f n) (f n)
+
+-- whether p holds of some i below n
+unfoldable pub some : (ℕ → Bool) → ℕ → Bool
+some p zero = false
+some p (suc n) = some p n || p n
 
 -- whether p holds of every i below n
 unfoldable pub every : (ℕ → Bool) → ℕ → Bool

@@ -49,7 +49,7 @@ axesOf fvar n = tabulate (λ i. cond (ltb i n) (axisAt fvar i) noAxis) 16
 unfoldable pub noIndex : CharmapIndex
 noIndex = record { «subtable_offset» = 0; «is_symbol» = false; «is_mac_roman» = false }
 
--- "no qualifying `cmap` record" is no index
+-- "no qualifying `cmap` record" is no index: `Qualifying.refused-22` and `gives-22` show that 22 is given exactly for it
 unfoldable pub hasIndex : Charmap → Bool
 hasIndex Missing = false
 hasIndex (Index index) = true

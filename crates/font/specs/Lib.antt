@@ -8,3 +8,5 @@ pub mod Charmap
 pub mod Reading
 pub mod Font
 pub mod Overrides
+-- Section 3's sentence on pairs, as laws of these.
+pub mod Pairs

@@ -14,7 +14,7 @@ use Rattle.font.specs.Single.{single, fixedToSingle}
 use Rattle.font.specs.Attributes.{attributesOf, defaultAttributes}
 use Rattle.font.specs.Tables.{u16At, u32At, tableData}
 
--- an absent table is handed out as no bytes
+-- an absent table is handed out as no bytes, in which nothing is read (`proofs/AnyReading.antt`)
 unfoldable pub present : List ℕ → Bool
 present table = ltb 0 (length table)
 

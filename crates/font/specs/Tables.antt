@@ -1,6 +1,6 @@
 -- Section 2: big-endian fields, the table directory, and table lookup, from OpenType's "Organization of an OpenType Font".
 use Prim.Native.Nat.{ℕ, _+_, _*_}
-use mathlib.Core.Bool.{Bool, true, false, _&&_, _||_, cond}
+use mathlib.Core.Bool.{Bool, _&&_, _||_, cond}
 use mathlib.Core.List.{List, []}
 use lib.ListN.{length, getD, take, drop}
 use lib.Dec.{leb, ltb, eqb}
@@ -8,7 +8,7 @@ use Rattle.font.specs.declared.tables.Table.{Table}
 use Rattle.font.specs.declared.tables.Table.the-variants.{Absent, Found}
 use Rattle.font.specs.First.{first}
 
--- "All fields are big-endian." A field that does not lie whole in the bytes reads as 0; nothing below reads such a one without a test.
+-- "All fields are big-endian." A field that does not lie whole in the bytes reads as 0, which section 2 never takes for data (`proofs/AnyReading.antt`).
 unfoldable pub u16At : List ℕ → ℕ → ℕ
 u16At s at = cond (leb (at + 2) (length s)) (getD s at 0 * 256 + getD s (at + 1) 0) 0
 

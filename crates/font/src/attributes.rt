@@ -83,7 +83,7 @@ impl Attributes {
 }
 
 // Whether the angle of a style, if it states one, is finite.
-pub fn style_accepted(style: FontStyle) -> bool
+pub(crate) fn style_accepted(style: FontStyle) -> bool
     ensures { λ r. ⌜ r ≡ acceptedStyle style ⌝ }
 {
     match style {

@@ -3,9 +3,8 @@ ghost use mathlib.Core.Path.{_≡_};
 ghost use mathlib.Core.Bool.{true};
 ghost use Prim.Native.Nat.{_+_, _*_, _^_, _≤_, _<_};
 ghost use lib.ListN.{length};
-ghost use lib.Dec.{ltb};
 ghost use Rattle.font.specs.Tables.{directoryFits};
-ghost use Rattle.font.specs.Charmap.{classOf, recordClass, bestClass, bestRecord, indexOf, charmapIndex};
+ghost use Rattle.font.specs.Charmap.{classOf, recordClass, someQualifies, bestClass, bestRecord, indexOf, charmapIndex};
 ghost use Rattle.font.specs.Font.{hasIndex};
 use crate::tables;
 use crate::tables::Table;
@@ -136,9 +135,9 @@ pub(crate) fn index_in(font: &[u8]) -> Charmap
     }
 }
 
-// Whether a record has a class. The first that has one ends the search.
+// Whether a record qualifies. The first that does ends the search.
 fn has_class(cmap: &[u8]) -> bool
-    ensures { λ r. ⌜ r ≡ ltb (bestClass (now (cmap .entry))) 4 ⌝ }
+    ensures { λ r. ⌜ r ≡ someQualifies (now (cmap .entry)) ⌝ }
 {
     let records = tables::u16_at(cmap, 2) as usize;
     let mut i: usize = 0;

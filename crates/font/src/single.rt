@@ -9,7 +9,7 @@ ghost use Rattle.font.specs.Single.{orderKey, fixedToSingle, wholeOf, wh
 const INFINITY: u32 = 0x7F80_0000;
 
 // Whether x is a number: no infinity and no NaN.
-pub fn is_finite(x: f32) -> bool
+pub(crate) fn is_finite(x: f32) -> bool
     ensures { λ r. ⌜ r ≡ finite x ⌝ }
 {
     let top = f32::from_bits(INFINITY);
@@ -49,7 +49,7 @@ fn nearest_bits(magnitude: u32) -> u32
 }
 
 // The single nearest to n/65536, where n is the two's complement of 32 bits.
-pub fn fixed_to_single(n: u32) -> f32
+pub(crate) fn fixed_to_single(n: u32) -> f32
     ensures { λ r. ⌜ r ≡ fixedToSingle n ⌝ }
 {
     if n < 0x8000_0000 {

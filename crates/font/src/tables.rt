@@ -6,13 +6,13 @@ ghost use lib.ListN.{length};
 ghost use Rattle.font.specs.Tables.{u16At, u32At, startsAsFont, directoryFits, firstRecord, tableOfRecord, findTable, tableData};
 
 // Where the first table with a tag lies.
-pub enum Table {
+pub(crate) enum Table {
     Absent,
     Found { offset: usize, length: usize },
 }
 
 // The 16-bit field at a position where it lies whole in the bytes.
-pub fn u16_in(s: &[u8], at: usize) -> u16
+pub(crate) fn u16_in(s: &[u8], at: usize) -> u16
     requires { ⌜ at + 2 ≤ length (now s) ⌝ }
     ensures { λ r. ⌜ r ≡ u16At (now (s .entry)) at ⌝ }
 {
@@ -20,7 +20,7 @@ pub fn u16_in(s: &[u8], at: usize) -> u16
 }
 
 // The 32-bit field at a position where it lies whole in the bytes.
-pub fn u32_in(s: &[u8], at: usize) -> u32
+pub(crate) fn u32_in(s: &[u8], at: usize) -> u32
     requires { ⌜ at + 4 ≤ length (now s) ⌝ }
     ensures { λ r. ⌜ r ≡ u32At (now (s .entry)) at ⌝ }
 {
@@ -66,7 +66,7 @@ fn starts_as_font(version: u32) -> bool
 }
 
 // Whether the font starts as one and its directory lies in the file.
-pub fn directory_fits(font: &[u8]) -> bool
+pub(crate) fn directory_fits(font: &[u8]) -> bool
     ensures { λ r. ⌜ r ≡ directoryFits (now (font .entry)) ⌝ }
 {
     if font.len() < 12 {
@@ -124,16 +124,6 @@ pub(crate) fn table_in(font: &[u8], tag: u32, least: usize) -> Table
     Table::Absent
 }
 
-// The first table with the tag, if it lies in the file and has at least `least` bytes.
-pub fn find_table(font: &[u8], tag: u32, least: usize) -> Table
-    ensures { λ r. ⌜ r ≡ findTable (now (font .entry)) tag least ⌝ }
-{
-    if directory_fits(font) {
-        return table_in(font, tag, least);
-    }
-    Table::Absent
-}
-
 // The found table as that part of the file and no other; an absent one is the empty part. Of a font whose directory fits.
 pub(crate) fn data_in<'a>(font: &'a [u8], tag: u32, least: usize) -> &'a [u8]
     requires { ⌜ directoryFits (now font) ≡ true ⌝ }
@@ -146,7 +136,7 @@ pub(crate) fn data_in<'a>(font: &'a [u8], tag: u32, least: usize) -> &'a [u8]
 }
 
 // The found table as that part of the file and no other; an absent one is the empty part.
-pub fn table_data<'a>(font: &'a [u8], tag: u32, least: usize) -> &'a [u8]
+pub(crate) fn table_data<'a>(font: &'a [u8], tag: u32, least: usize) -> &'a [u8]
     ensures { λ r. ⌜ now r ≡ tableData (now (font .entry)) tag least ⌝ }
 {
     if directory_fits(font) {

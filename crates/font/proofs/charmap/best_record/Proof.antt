@@ -1,7 +1,7 @@
 -- `font::charmap::best_record` meets its contract. The invariant: the class is the best so far, and the record the first of that class.
 -- A record that does not lie in the table has the class 4, and so has every later one.
 -- Assumes nothing.
-use Prim.Native.Nat.{ℕ, _≤_, _-_}
+use Prim.Native.Nat.{_≤_, _-_}
 use mathlib.Core.Path.{_≡_}
 use borrow.Author.Needs.{needs}
 use native.Mathlib.Omega.{arith}

@@ -1,6 +1,6 @@
 -- `font::charmap::index_in` meets its contract: a found table lies in the file and has 4 bytes.
 -- Assumes nothing.
-use mathlib.Core.Path.{sym, _∙_, ap}
+use mathlib.Core.Path.{sym, _∙_}
 use native.Mathlib.Omega.{arith}
 use native.Mathlib.Nat.{add-sub-cancel-left}
 use lib.ListN.{length-take, length-drop}

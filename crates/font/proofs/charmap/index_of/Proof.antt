@@ -1,9 +1,9 @@
 -- `font::charmap::index_of` meets its contract.
 -- Assumes nothing.
 use mathlib.Core.Path.{sym}
-use native.Mathlib.Omega.{arith}
 use borrow.Author.Tests.{lt-ltb, le-ltb}
 use Rattle.font.specs.Charmap.{indexOf, subtableOffset}
+use Rattle.font.proofs.Records.{best-qualifies}
 use borrow.Author.Needs.{needs}
 use Rattle.font.proofs.charmap.index_of.Statement.{statement}
 use Rattle.font.proofs.charmap.index_of.Tie as tie
@@ -30,11 +30,12 @@ returns : tie.Need-returns
 unfolding indexOf subtableOffset
 returns c = let best = c .before .before .before .before .before .before .best-record .ensures in
     let low = c .before .before .before .before .if1 .taken in
-    simp (sym (best .0), lt-ltb _ _ low, sym (best .1 low), sym (c .before .before .u32-at .ensures))
+    let cmap = c .before .before .before .before .before .before .before .before .args .cmap .now in
+    simp (sym (best-qualifies cmap), sym (best .0), lt-ltb _ _ low, sym (best .1 low), sym (c .before .before .u32-at .ensures))
 
 returns-2 : tie.Need-returns-2
 unfolding indexOf subtableOffset
-returns-2 c = simp (sym (c .before .before .best-record .ensures .0), le-ltb _ _ (c .if1 .left))
+returns-2 c = simp (sym (best-qualifies (c .before .before .before .before .args .cmap .now)), sym (c .before .before .best-record .ensures .0), le-ltb _ _ (c .if1 .left))
 
 pub index-of-spec : {M : Type 1} → statement M
 index-of-spec =

@@ -1,9 +1,9 @@
 -- `font::charmap::record_class` meets its contract: each answer is that of the tests that led to it.
 -- Assumes nothing.
 use mathlib.Core.Path.{sym}
-use native.Mathlib.Omega.{arith}
 use borrow.Author.Tests.{le-leb, lt-leb}
-use Rattle.font.specs.Charmap.{recordClass, qualifies, subtableOffset}
+use Rattle.font.specs.Charmap.{recordClass, qualifies, liesIn, pairClass, subtableOffset}
+use Rattle.font.proofs.Records.{class-in}
 use borrow.Author.Needs.{needs}
 use Rattle.font.proofs.charmap.record_class.Statement.{statement}
 use Rattle.font.proofs.charmap.record_class.Tie as tie
@@ -24,7 +24,7 @@ add-if1 : tie.Need-add-if1
 add-if1 c = search needs
 
 returns : tie.Need-returns
-unfolding recordClass qualifies subtableOffset
+unfolding recordClass qualifies liesIn subtableOffset
 returns c = simp (sym (c .before .u32-in .ensures), lt-leb _ _ (c .if1 .taken), le-leb _ _ (c .before .before .before .pre))
 
 mul-u16-in : tie.Need-mul-u16-in
@@ -49,9 +49,9 @@ class-of-requires : tie.Need-class-of-requires
 class-of-requires c κs = search needs
 
 returns-2 : tie.Need-returns-2
-unfolding recordClass qualifies subtableOffset
-returns-2 c = simp
-    (sym (c .before .before .before .before .u32-in .ensures), le-leb _ _ (c .before .before .before .if1 .left), le-leb _ _ (c .before .before .before .before .before .before .pre), sym (c .before .before .u16-in .ensures), sym (c .before .u16-in2 .ensures))
+unfolding pairClass subtableOffset
+returns-2 c = let lies = rw (c .before .before .before .before .u32-in .ensures) at (c .before .before .before .if1 .left) in
+    simp (class-in _ _ (c .before .before .before .before .before .before .pre) lies, sym (c .before .before .u16-in .ensures), sym (c .before .u16-in2 .ensures))
     (c .class-of .ensures)
 
 pub record-class-spec : {M : Type 1} → statement M

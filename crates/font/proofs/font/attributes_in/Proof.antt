@@ -1,6 +1,6 @@
 -- `font::font::attributes_in` meets its contract: each answer is that of the tests that led to it.
 -- Assumes nothing.
-use mathlib.Core.Path.{sym, _∙_}
+use mathlib.Core.Path.{sym}
 use borrow.Author.Tests.{lt-ltb, le-ltb}
 use lib.Ieee.{ofBits, ofInt, round}
 use Rattle.font.specs.Single.{single}

@@ -1,6 +1,6 @@
 -- `font::font::from_os2_post` meets its contract.
 -- Assumes nothing.
-use mathlib.Core.Path.{sym, _∙_}
+use mathlib.Core.Path.{_∙_}
 use Rattle.font.specs.Single.{single}
 use Rattle.font.specs.Reading.{fromOs2Post}
 use borrow.Author.Needs.{needs}

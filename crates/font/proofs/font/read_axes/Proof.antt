@@ -1,15 +1,13 @@
 -- `font::font::read_axes` meets its contract. The invariant: the first i axes are read, and the others are as they were made.
 -- Assumes nothing.
-use Prim.Native.Nat.{ℕ, _≤_, _-_}
+use Prim.Native.Nat.{_≤_, _-_}
 use mathlib.Core.Path.{_≡_, refl, _∙_, ap}
-use mathlib.Core.Bool.{cond}
 use borrow.Author.Needs.{needs}
 use native.Mathlib.Omega.{arith}
-use lib.Dec.{ltb}
 use lib.Ieee.{ofBits, ofInt, round}
 use Rattle.font.specs.First.{tabulate}
 use Rattle.font.specs.Single.{single}
-use Rattle.font.specs.Font.{axisAt, noAxis, axesOf}
+use Rattle.font.specs.Font.{noAxis, axesOf}
 use Rattle.font.proofs.Tabulated.{filled}
 use Rattle.font.proofs.font.read_axes.Statement.{statement}
 use Rattle.font.proofs.font.read_axes.Tie as tie

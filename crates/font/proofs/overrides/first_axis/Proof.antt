@@ -1,9 +1,8 @@
 -- `font::overrides::first_axis` meets its contract. The invariant: none of the axes before i has the tag.
 -- Assumes nothing.
-use Prim.Native.Nat.{ℕ, _-_}
-use mathlib.Core.Path.{_≡_, sym, _∙_, ap}
+use Prim.Native.Nat.{_-_}
+use mathlib.Core.Path.{_≡_, sym}
 use lib.Dec.{eqb}
-use borrow.Author.Needs.{needs}
 use borrow.Author.Tests.{eq-eqb, ne-eqb}
 use native.Mathlib.Omega.{arith}
 use Rattle.font.specs.First.{first}

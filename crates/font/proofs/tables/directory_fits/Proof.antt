@@ -1,7 +1,7 @@
 -- `font::tables::directory_fits` meets its contract: each answer is that of the tests that led to it.
 -- Assumes nothing.
 use Rattle.font.specs.Tables.{directoryFits, recordCount}
-use mathlib.Core.Path.{_≡_, sym, _∙_, ap}
+use mathlib.Core.Path.{sym}
 use borrow.Author.Tests.{le-leb, lt-leb}
 use borrow.Author.Needs.{needs}
 use Rattle.font.proofs.tables.directory_fits.Statement.{statement}
