@@ -5,10 +5,11 @@ use mathlib.Core.Bool.{Bool, true, false, _&&_, _||_, cond, true≢false}
 use mathlib.Core.Logic.{_⊎_, inl, inr, ⊎-elim}
 use native.Mathlib.Omega.{arith}
 use native.Mathlib.Numerals.{add-one}
-use native.Mathlib.Decide.{ℕ-discrete, decLt}
+use native.Mathlib.Decide.{decLt}
 use lib.Dec.{ltb}
 use borrow.Author.Tests.{lt-ltb, le-ltb}
 use Rattle.font.specs.First.{first, leastBelow}
+use Rattle.font.proofs.First.{below-or-last}
 use Rattle.matching.specs.Below.{some, every, last}
 
 -- which of the two a Bool is
@@ -38,10 +39,6 @@ pub or-right : (a b : Bool) → b ≡ true → a || b ≡ true
 or-right true b e = refl
 or-right false b e = e
 
--- a place below suc n is below n, or is n
-below-suc : (n i : ℕ) → i < suc n → (i < n) ⊎ (i ≡ n)
-below-suc n i h = elim (ℕ-discrete i n) [ yes e ↦ inr e | no d ↦ inl (omega arith) ]
-
 module _ (p : ℕ → Bool) where
   pub some-at : (n i : ℕ) → i < n → p i ≡ true → some p n ≡ true
   unfolding some
@@ -50,7 +47,7 @@ module _ (p : ℕ → Bool) where
       ⊎-elim
       (λ (l : i < n). rw (some-at n i l e))
       (λ (q : i ≡ n). or-right (some p n) (p n) (sym (ap p q) ∙ e))
-      (below-suc n i h)
+      (below-or-last i n h)
 
   pub some-find : (n : ℕ) → some p n ≡ true → (i : ℕ) × (i < n) × (p i ≡ true)
   unfolding some
@@ -61,9 +58,6 @@ module _ (p : ℕ → Bool) where
       (λ (b : p n ≡ true). (n, omega arith, b))
       (either (some p n) (p n) e)
 
-  pub some-none : (n i : ℕ) → some p n ≡ false → i < n → p i ≡ false
-  some-none n i e h = ⊎-elim (λ (t : p i ≡ true). absurd (clash (some-at n i h t) e)) (λ (f : p i ≡ false). f) (truth (p i))
-
   pub some-more : (n : ℕ) → some p n ≡ false → p n ≡ false → some p (n + 1) ≡ false
   unfolding some
   some-more n e f = rw (add-one, e, f)
@@ -72,11 +66,6 @@ module _ (p : ℕ → Bool) where
   unfolding some
   some-next n = rw add-one
 
-  pub some-less : (n : ℕ) → ((i : ℕ) → i < n → p i ≡ false) → some p n ≡ false
-  unfolding some
-  some-less zero h = refl
-  some-less (suc n) h = rw (some-less n (λ i l. h i (omega arith)), h n (omega arith))
-
   pub every-at : (n i : ℕ) → every p n ≡ true → i < n → p i ≡ true
   unfolding every
   every-at zero i e h = absurd (omega arith)
@@ -84,7 +73,7 @@ module _ (p : ℕ → Bool) where
       ⊎-elim
       (λ (l : i < n). every-at n i (both (every p n) (p n) e .0) l)
       (λ (q : i ≡ n). ap p q ∙ both (every p n) (p n) e .1)
-      (below-suc n i h)
+      (below-or-last i n h)
 
   pub every-all : (n : ℕ) → ((i : ℕ) → i < n → p i ≡ true) → every p n ≡ true
   unfolding every
@@ -104,7 +93,7 @@ module _ (p : ℕ → Bool) where
       go true e = at (omega arith) e f
       go false e =
           nobody refl
-          (λ i h. ⊎-elim (λ (l : i < n). f i l) (λ (k : i ≡ n). ap p k ∙ e) (below-suc n i h))
+          (λ i h. ⊎-elim (λ (l : i < n). f i l) (λ (k : i ≡ n). ap p k ∙ e) (below-or-last i n h))
 
   pub sought : (n : ℕ) → Sought n (first p n)
   unfolding first
@@ -141,7 +130,7 @@ module _ (p : ℕ → Bool) where
   last-found (suc n) i h e = go (p n) refl (λ l. last-found n i l e)
     where
       before-n : p n ≡ false → i < n
-      before-n f = ⊎-elim (λ (l : i < n). l) (λ (k : i ≡ n). absurd (clash e (ap p k ∙ f))) (below-suc n i h)
+      before-n f = ⊎-elim (λ (l : i < n). l) (λ (k : i ≡ n). absurd (clash e (ap p k ∙ f))) (below-or-last i n h)
 
       go : (b : Bool) → p n ≡ b
           → (i < n → (last p n < n) × (p (last p n) ≡ true) × (i ≤ last p n))
@@ -158,7 +147,7 @@ module _ (top : ℕ) (f : ℕ → ℕ) where
       ⊎-elim
       (λ (l : i < n). omega (arith, least-le n i l))
       (λ (k : i ≡ n). subst (λ (j : ℕ). min (leastBelow top f n) (f n) ≤ f j) (sym k) (omega arith))
-      (below-suc n i h)
+      (below-or-last i n h)
 
   pub least-top : (n : ℕ) → leastBelow top f n ≤ top
   unfolding leastBelow

@@ -229,15 +229,3 @@ module _ (family : Family) (request : Request) (bounds : Bounded family) where
                 (first-before i r r-in (λ q. d (sym q)) e)
                 (first-before r i h d stands-first))
           ]))
-
--- at most one place stands first, so the choice is the only one
-pub unique : (family : Family) (request : Request) (bounds : Bounded family) (weights : (i : ℕ) → i < family .count → family .face i .weight < 2 ^ 32) (i j : ℕ) → i < family .count → j < family .count → standsFirst family request i ≡ true → standsFirst family request j ≡ true → i ≡ j
-unique family request bounds weights i j h k e f =
-    elim (ℕ-discrete i j) [
-      | yes q ↦ q
-      | no d ↦
-          absurd
-          (asymmetric family request bounds weights i j h k
-          (first-before family request bounds i j k (λ q. d (sym q)) e)
-          (first-before family request bounds j i h d f))
-    ]

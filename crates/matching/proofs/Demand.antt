@@ -9,11 +9,14 @@ use lib.Dec.{ltb, leb, eqb}
 use borrow.Author.Tests.{lt-ltb, le-ltb, le-leb, lt-leb, eq-eqb, ne-eqb, eqb-false, leb-true, leb-false, ltb-false, not-true, not-false}
 use Rattle.font.specs.First.{first, leastBelow}
 use Rattle.matching.specs.declared.order.Request.{Request}
+use Rattle.matching.specs.declared.rank.Standing.{Standing}
+use Rattle.matching.specs.declared.rank.Standing.the-variants.{Up, Down}
 use Rattle.matching.specs.Rank.{grouped}
 use Rattle.matching.specs.Packed.{packed, placeOf}
 use Rattle.matching.specs.Below.{some, every}
-use Rattle.matching.specs.Order.{Family, angle, oblique, zeroAngle, fourteen, normalStanding, italicStanding, otherStanding, rightStanding, leftStanding, widthStanding, styleStanding, weightStanding, onSide, samePercent, slantAt, inWidth, inStyle, hasGroup, widthBefore, standsFirst, choice, chosenWidth, emptyCase, Demand}
-use Rattle.matching.proofs.Below.{truth, clash, both, join, some-less, some-none, every-at, every-all, first-found, Sought, sought, nobody, at}
+use Rattle.matching.specs.Order.{Family, angle, oblique, zeroAngle, fourteen, normalStanding, italicStanding, otherStanding, turnOf, sideStanding, rightStanding, leftStanding, obliqueStanding, widthStanding, styleStanding, weightStanding, onSide, samePercent, slantAt, inWidth, inStyle, hasGroup, widthBefore, standsFirst, choice, chosenWidth, emptyCase, Demand}
+use Rattle.font.proofs.First.{some-fails, all-fail}
+use Rattle.matching.proofs.Below.{truth, both, join, every-at, every-all, first-found, Sought, sought, nobody, at}
 use Rattle.matching.proofs.Numbers.{zero-angle, fourteen-is}
 use Rattle.matching.proofs.Standings.{pick}
 use Rattle.matching.proofs.Before.{Bounded, percent-same, same-percent, slant-same, width-is, width-level}
@@ -59,44 +62,49 @@ module _ (synthesis slant : Bool) (w s : ℕ) (big : oblique w ≡ true) (differ
       go true false = refl
       go true true = refl
 
-  right-group : leb zeroAngle (angle w) ≡ true → grouped (rightStanding synthesis slant (angle w) s) ≡ not (shutOut synthesis slant w s)
-  unfolding rightStanding grouped onSide
-  right-group r = go (truth (oblique s && leb (angle w) (angle s))) (truth (oblique s && ltb zeroAngle (angle s)))
+  -- a style beyond the request or between zero and it is on the request's side, and no other is
+  side-group : (first beyond between : Bool) (far near : ℕ → Standing)
+      → ((t : ℕ) → grouped (far t) ≡ true) → ((t : ℕ) → grouped (near t) ≡ true) → (beyond ≡ true → between ≡ true) → onSide w s ≡ between
+      → grouped (sideStanding first beyond between far near (otherStanding synthesis slant (angle w) s)) ≡ not (shutOut synthesis slant w s)
+  unfolding sideStanding
+  side-group first true between far near f n k e = f (turnOf first) ∙ sym (on (e ∙ k refl))
+  side-group first false true far near f n k e = n (turnOf (not first)) ∙ sym (on e)
+  side-group first false false far near f n k e = other-group synthesis slant (angle w) s ∙ sym (off e)
+
+  side-right : leb zeroAngle (angle w) ≡ true → onSide w s ≡ oblique s && ltb zeroAngle (angle s)
+  unfolding onSide
+  side-right r = rw r
+
+  side-left : leb zeroAngle (angle w) ≡ false → onSide w s ≡ oblique s && ltb (angle s) zeroAngle
+  unfolding onSide
+  side-left r = rw r
+
+  oblique-group : grouped (obliqueStanding synthesis slant (angle w) s) ≡ not (shutOut synthesis slant w s)
+  unfolding obliqueStanding rightStanding leftStanding grouped
+  oblique-group = go (truth (leb zeroAngle (angle w)))
     where
-      side : onSide w s ≡ oblique s && ltb zeroAngle (angle s)
-      side = rw r
-
-      go : (oblique s && leb (angle w) (angle s) ≡ true) ⊎ (oblique s && leb (angle w) (angle s) ≡ false)
-          → (oblique s && ltb zeroAngle (angle s) ≡ true) ⊎ (oblique s && ltb zeroAngle (angle s) ≡ false)
-          → grouped (rightStanding synthesis slant (angle w) s) ≡ not (shutOut synthesis slant w s)
-      go (inl a) (inl b) = rw a (sym (on (side ∙ b)))
-      go (inl a) (inr b) =
-          let t = both (oblique s) (leb (angle w) (angle s)) a in
-          let zero≤w : zeroAngle ≤ angle w = leb-true zeroAngle (angle w) r in
-          let w≤s : angle w ≤ angle s = leb-true (angle w) (angle s) (t .1) in
-          let s≤zero : angle s ≤ zeroAngle = ltb-false zeroAngle (angle s) (rw (t .0) at b) in
-          absurd (eqb-false s w differ (zero-style s (omega arith) ∙ sym (zero-style w (omega arith))))
-      go (inr a) (inl b) = rw (a, b) (sym (on (side ∙ b)))
-      go (inr a) (inr b) = rw (a, b) (other-group synthesis slant (angle w) s ∙ sym (off (side ∙ b)))
-
-  left-group : leb zeroAngle (angle w) ≡ false → grouped (leftStanding synthesis slant (angle w) s) ≡ not (shutOut synthesis slant w s)
-  unfolding leftStanding grouped onSide
-  left-group r = go (truth (oblique s && leb (angle s) (angle w))) (truth (oblique s && ltb (angle s) zeroAngle))
-    where
-      side : onSide w s ≡ oblique s && ltb (angle s) zeroAngle
-      side = rw r
-
-      go : (oblique s && leb (angle s) (angle w) ≡ true) ⊎ (oblique s && leb (angle s) (angle w) ≡ false)
-          → (oblique s && ltb (angle s) zeroAngle ≡ true) ⊎ (oblique s && ltb (angle s) zeroAngle ≡ false)
-          → grouped (leftStanding synthesis slant (angle w) s) ≡ not (shutOut synthesis slant w s)
-      go (inl a) (inl b) = rw a (sym (on (side ∙ b)))
-      go (inl a) (inr b) =
-          let t = both (oblique s) (leb (angle s) (angle w)) a in
-          let w<zero : angle w < zeroAngle = leb-false zeroAngle (angle w) r in
-          let s≤w : angle s ≤ angle w = leb-true (angle s) (angle w) (t .1) in
-          absurd (clash (join (t .0) (lt-ltb (angle s) zeroAngle (omega arith))) b)
-      go (inr a) (inl b) = rw (a, b) (sym (on (side ∙ b)))
-      go (inr a) (inr b) = rw (a, b) (other-group synthesis slant (angle w) s ∙ sym (off (side ∙ b)))
+      go : (leb zeroAngle (angle w) ≡ true) ⊎ (leb zeroAngle (angle w) ≡ false)
+          → grouped (obliqueStanding synthesis slant (angle w) s) ≡ not (shutOut synthesis slant w s)
+      go (inl r) = rw r (side-group _ _ _ (λ t. Up t (angle s)) (λ t. Down t (angle s)) (λ t. refl) (λ t. refl) right (side-right r))
+        where
+          right : oblique s && leb (angle w) (angle s) ≡ true → oblique s && ltb zeroAngle (angle s) ≡ true
+          right a =
+              let t = both (oblique s) (leb (angle w) (angle s)) a in
+              let zero≤w : zeroAngle ≤ angle w = leb-true zeroAngle (angle w) r in
+              let w≤s : angle w ≤ angle s = leb-true (angle w) (angle s) (t .1) in
+              join (t .0) (⊎-elim (λ b. b)
+              (λ (b : ltb zeroAngle (angle s) ≡ false).
+              let s≤zero : angle s ≤ zeroAngle = ltb-false zeroAngle (angle s) b in
+              absurd (eqb-false s w differ (zero-style s (omega arith) ∙ sym (zero-style w (omega arith)))))
+              (truth (ltb zeroAngle (angle s))))
+      go (inr r) = rw r (side-group _ _ _ (λ t. Down t (angle s)) (λ t. Up t (angle s)) (λ t. refl) (λ t. refl) left (side-left r))
+        where
+          left : oblique s && leb (angle s) (angle w) ≡ true → oblique s && ltb (angle s) zeroAngle ≡ true
+          left a =
+              let t = both (oblique s) (leb (angle s) (angle w)) a in
+              let w<zero : angle w < zeroAngle = leb-false zeroAngle (angle w) r in
+              let s≤w : angle s ≤ angle w = leb-true (angle s) (angle w) (t .1) in
+              join (t .0) (lt-ltb (angle s) zeroAngle (omega arith))
 
 normal-group : (s : ℕ) → grouped (normalStanding s) ≡ true
 unfolding grouped normalStanding
@@ -112,7 +120,7 @@ italic-group s =
 -- a style that is not requested has a group unless it is shut out
 style-group : (synthesis slant : Bool) (w s : ℕ) → grouped (styleStanding synthesis slant w s) ≡ not (shutOut synthesis slant w s)
 unfolding styleStanding grouped oblique
-style-group synthesis slant w s = go (truth (eqb s w)) (ℕ-discrete w 0) (ℕ-discrete w 1) (truth (leb zeroAngle (angle w)))
+style-group synthesis slant w s = go (truth (eqb s w)) (ℕ-discrete w 0) (ℕ-discrete w 1)
   where
     equal : (a b c : Bool) → true ≡ not (a && (b && (c && false)))
     equal false b c = refl
@@ -123,13 +131,11 @@ style-group synthesis slant w s = go (truth (eqb s w)) (ℕ-discrete w 0) (ℕ-d
     big : (w ≡ 0 → ⊥) → (w ≡ 1 → ⊥) → leb 2 w ≡ true
     big d e = le-leb 2 w (omega arith)
 
-    go : (eqb s w ≡ true) ⊎ (eqb s w ≡ false) → Dec (w ≡ 0) → Dec (w ≡ 1) → (leb zeroAngle (angle w) ≡ true) ⊎ (leb zeroAngle (angle w) ≡ false)
-        → grouped (styleStanding synthesis slant w s) ≡ not (shutOut synthesis slant w s)
-    go (inl e) d₀ d₁ r = rw e (equal (leb 2 w) synthesis slant)
-    go (inr e) (yes z) d₁ r = rw (e, eq-eqb w 0 z, lt-leb 2 w (omega arith)) (normal-group s)
-    go (inr e) (no z) (yes o) r = rw (e, ne-eqb w 0 z, eq-eqb w 1 o, lt-leb 2 w (omega arith)) (italic-group s)
-    go (inr e) (no z) (no o) (inl r) = rw (e, ne-eqb w 0 z, ne-eqb w 1 o, r) (rw e at (right-group synthesis slant w s (big z o) e r))
-    go (inr e) (no z) (no o) (inr r) = rw (e, ne-eqb w 0 z, ne-eqb w 1 o, r) (rw e at (left-group synthesis slant w s (big z o) e r))
+    go : (eqb s w ≡ true) ⊎ (eqb s w ≡ false) → Dec (w ≡ 0) → Dec (w ≡ 1) → grouped (styleStanding synthesis slant w s) ≡ not (shutOut synthesis slant w s)
+    go (inl e) d₀ d₁ = rw e (equal (leb 2 w) synthesis slant)
+    go (inr e) (yes z) d₁ = rw (e, eq-eqb w 0 z, lt-leb 2 w (omega arith)) (normal-group s)
+    go (inr e) (no z) (yes o) = rw (e, ne-eqb w 0 z, eq-eqb w 1 o, lt-leb 2 w (omega arith)) (italic-group s)
+    go (inr e) (no z) (no o) = rw (e, ne-eqb w 0 z, ne-eqb w 1 o) (rw e at (oblique-group synthesis slant w s (big z o) e))
 
 module _ (family : Family) (request : Request) (bounds : Bounded family) (two : 2 ≤ family .count) where
   abbrev n : ℕ
@@ -206,8 +212,8 @@ module _ (family : Family) (request : Request) (bounds : Bounded family) (two : 
       let d = both (not (some bearing n)) (not (some siding n) && slantAt family c) (b .1) in
       let f = both (not (some siding n)) (slantAt family c) (d .1) in
       let here : samePercent family c j ≡ true = near c j at-chosen t in
-      let bare : eqb (family .face j .style) (request .style) ≡ false = rw here at (some-none bearing n j (not-true (some bearing n) (d .0)) h) in
-      let off-side : onSide (request .style) (family .face j .style) ≡ false = rw here at (some-none siding n j (not-true (some siding n) (f .0)) h) in
+      let bare : eqb (family .face j .style) (request .style) ≡ false = rw here at (all-fail bearing n (not-true (some bearing n) (d .0)) j h) in
+      let off-side : onSide (request .style) (family .face j .style) ≡ false = rw here at (all-fail siding n (not-true (some siding n) (f .0)) j h) in
       let slanted : slantAt family j ≡ true = slant-same family lead j t ∙ sym (slant-same family lead c at-chosen) ∙ f .1 in
       group-is j ∙ rw (a .0, b .0, slanted, bare, off-side)
 
@@ -232,8 +238,8 @@ module _ (family : Family) (request : Request) (bounds : Bounded family) (two : 
   ungrouped-empty g =
       join (mine .0)
       (join (mine .1)
-      (join (ap not (some-less bearing n nobody-bears))
-      (join (ap not (some-less siding n nobody-sides)) (slant-same family lead c at-chosen ∙ mine .2))))
+      (join (ap not (some-fails bearing n nobody-bears))
+      (join (ap not (some-fails siding n nobody-sides)) (slant-same family lead c at-chosen ∙ mine .2))))
     where
       mine : (oblique (request .style) ≡ true) × (request .synthesis ≡ true) × (slantAt family lead ≡ true) × (eqb (family .face lead .style) (request .style) ≡ false) × (onSide (request .style) (family .face lead .style) ≡ false)
       mine = shown lead (g lead (leading .0) (same-percent family lead lead refl))

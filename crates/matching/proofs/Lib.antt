@@ -3,6 +3,7 @@ pub mod Numbers
 pub mod Below
 pub mod Ranks
 pub mod Standings
+pub mod Turns
 pub mod Before
 pub mod Choice
 pub mod Scans
@@ -14,3 +15,4 @@ pub mod Matched
 pub mod Listed
 pub mod Tried
 pub mod Styles
+pub mod SettingValues

@@ -1,11 +1,13 @@
 -- The standings of section 4 are of the sizes that the laws of ranks ask, and each carries its order number.
 use Prim.Native.Nat.{ℕ, _^_, _<_}
 use mathlib.Core.Path.{_≡_, refl}
-use mathlib.Core.Bool.{Bool, true, false, _&&_, cond}
+use mathlib.Core.Bool.{Bool, true, false, not, _&&_, cond}
 use native.Mathlib.Omega.{arith}
 use lib.Dec.{ltb, leb, eqb}
+use Rattle.matching.specs.declared.rank.Standing.{Standing}
+use Rattle.matching.specs.declared.rank.Standing.the-variants.{Up, Down}
 use Rattle.matching.specs.Rank.{grouped}
-use Rattle.matching.specs.Order.{angle, oblique, fourteen, zeroAngle, minusFourteen, fourHundred, fiveHundred, widthStanding, normalStanding, italicStanding, otherStanding, rightStanding, leftStanding, styleStanding, weightStanding}
+use Rattle.matching.specs.Order.{angle, oblique, fourteen, zeroAngle, fourHundred, fiveHundred, widthStanding, normalStanding, italicStanding, otherStanding, sideStanding, rightStanding, leftStanding, obliqueStanding, styleStanding, weightStanding}
 use Rattle.matching.proofs.Ranks.{Sized, orderIn}
 use Rattle.matching.proofs.Numbers.{fourteen-is}
 
@@ -13,6 +15,10 @@ use Rattle.matching.proofs.Numbers.{fourteen-is}
 pub pick : {A : Type 0} (P : A → Type 0) (b : Bool) {x y : A} → P x → P y → P (cond b x y)
 pick P true h k = h
 pick P false h k = k
+
+pub alike : {A : Type 0} (b : Bool) (x : A) → cond b x x ≡ x
+alike true x = refl
+alike false x = refl
 
 pub width-sized : (w x : ℕ) → x < 2 ^ 32 → Sized (widthStanding w x)
 unfolding widthStanding
@@ -83,23 +89,20 @@ module _ (s : ℕ) (h : angle s < 2 ^ 32) where
   other-sized true false a = pick Sized (eqb s 0) (omega arith) (omega arith)
   other-sized true true a = tt
 
-  turn-short : (b : Bool) → (cond b 1 2 < 256) × (cond b 2 1 < 256)
-  turn-short true = omega arith
-  turn-short false = omega arith
+  -- a group of the turn 1 or 2
+  side-sized : (first beyond between : Bool) (far near : ℕ → Standing) (rest : Standing)
+      → ((t : ℕ) → t < 256 → Sized (far t)) → ((t : ℕ) → t < 256 → Sized (near t)) → Sized rest → Sized (sideStanding first beyond between far near rest)
+  unfolding sideStanding
+  side-sized first beyond between far near rest f n r =
+      pick Sized beyond (pick (λ t. Sized (far t)) first (f 1 (omega arith)) (f 2 (omega arith)))
+      (pick Sized between (pick (λ t. Sized (near t)) (not first) (n 1 (omega arith)) (n 2 (omega arith))) r)
 
-  right-sized : (synthesis slant : Bool) (a : ℕ) → Sized (rightStanding synthesis slant a s)
-  unfolding rightStanding
-  right-sized synthesis slant a =
-      pick Sized (oblique s && leb a (angle s)) (turn-short (leb fourteen a) .0, h)
-      (pick Sized (oblique s && ltb zeroAngle (angle s)) (turn-short (leb fourteen a) .1, h)
-      (other-sized synthesis slant a))
-
-  left-sized : (synthesis slant : Bool) (a : ℕ) → Sized (leftStanding synthesis slant a s)
-  unfolding leftStanding
-  left-sized synthesis slant a =
-      pick Sized (oblique s && leb (angle s) a) (turn-short (ltb minusFourteen a) .1, h)
-      (pick Sized (oblique s && ltb (angle s) zeroAngle) (turn-short (ltb minusFourteen a) .0, h)
-      (other-sized synthesis slant a))
+  oblique-sized : (synthesis slant : Bool) (a : ℕ) → Sized (obliqueStanding synthesis slant a s)
+  unfolding obliqueStanding rightStanding leftStanding
+  oblique-sized synthesis slant a =
+      pick Sized (leb zeroAngle a)
+      (side-sized _ _ _ (λ t. Up t (angle s)) (λ t. Down t (angle s)) _ (λ t l. (l, h)) (λ t l. (l, h)) (other-sized synthesis slant a))
+      (side-sized _ _ _ (λ t. Down t (angle s)) (λ t. Up t (angle s)) _ (λ t l. (l, h)) (λ t l. (l, h)) (other-sized synthesis slant a))
 
 pub style-sized : (synthesis slant : Bool) (w s : ℕ) → s < 2 ^ 32 → Sized (styleStanding synthesis slant w s)
 unfolding styleStanding
@@ -107,6 +110,4 @@ style-sized synthesis slant w s h =
     pick Sized (eqb s w) (omega arith)
     (pick Sized (eqb w 0) (normal-sized s (angle-short s h))
     (pick Sized (eqb w 1) (italic-sized s (angle-short s h))
-    (pick Sized (leb zeroAngle (angle w))
-    (right-sized s (angle-short s h) synthesis slant (angle w))
-    (left-sized s (angle-short s h) synthesis slant (angle w)))))
+    (oblique-sized s (angle-short s h) synthesis slant (angle w))))

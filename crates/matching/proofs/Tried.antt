@@ -2,15 +2,17 @@
 use mathlib.Core.Path.{_≡_, refl, sym, _∙_}
 use mathlib.Core.Bool.{false}
 use lib.IntN.{pos, negsuc}
-use lib.Ieee.{fin, ofInt, round, add, sum, mul, lt, neg, toBits, isNan, toUnsigned, toSigned}
+use lib.Ieee.{fin, ofInt, round, add, sum, mul, lt, le, neg, toBits, isNan, toUnsigned, toSigned}
 use Rattle.font.specs.First.{first}
-use Rattle.font.specs.Single.{single, orderKey, keyOfBits, wholePercent, fixedToSingle}
+use Rattle.font.specs.Single.{single, orderKey, keyOfBits, wholePercent, fixedToSingle, acceptedRatio}
+use Rattle.font.specs.Attributes.{acceptedAngle, acceptedStyle, acceptedAttributes}
+use Rattle.font.specs.Overrides.{axisOf, acceptedAxis, acceptedFace, refusalOf, faceRefusal}
 use Rattle.matching.specs.Rank.{lower, before, grouped}
 use Rattle.matching.specs.Below.{some, every, last}
-use Rattle.matching.specs.Order.{zeroAngle, fourteen, minusFourteen, fourHundred, fiveHundred, angle, oblique, widthStanding, normalStanding, italicStanding, otherStanding, rightStanding, leftStanding, styleStanding, weightStanding, samePercent, bears, slantAt, inWidth, inStyle, inWeight, bearerOf, bearer, hasGroup, widthBefore, styleBefore, weightBefore, standsBefore, standsFirst, choice}
-use Rattle.matching.specs.Matching.{styleNumber, axisAt, axisCount, axisPlace, hasAxis, slnt, faceOf, blank, familyOf, requestOf}
-use Rattle.matching.specs.Synthesis.{emboldened, degreesOf, leansRight, obliqueSkew, skewOf}
-use Rattle.matching.specs.Faces.{fraction, minusFraction, attributesAt, faceWith, weighing, wide, styled, slanting, stated, chosenOf, forWeight, forWidth, forStyle, fixed, FacesToTry}
+use Rattle.matching.specs.Order.{zeroAngle, fourteen, minusFourteen, fourHundred, fiveHundred, angle, oblique, widthStanding, normalStanding, italicStanding, otherStanding, sideStanding, rightStanding, leftStanding, obliqueStanding, styleStanding, weightStanding, samePercent, bears, slantAt, inWidth, inStyle, inWeight, bearerOf, bearer, hasGroup, widthBefore, styleBefore, weightBefore, standsBefore, standsFirst, choice}
+use Rattle.matching.specs.Matching.{styleNumber, axisAt, axisCount, axisPlace, hasAxis, slnt, faceOf, blank, familyOf, requestOf, refusedAs, facesRefusal, familyRefusal, answered, matchFont}
+use Rattle.matching.specs.Synthesis.{wdth, wght, ital, widthSetting, weightSetting, emboldened, degreesOf, leansRight, italicLean, obliqueLean, leanOf, settingOf, skewOf, unvaried, put, added, synthesized, variesOf, synthesisRefusal, synthesisOf}
+use Rattle.matching.specs.Faces.{fraction, minusFraction, faceWith, weighing, wide, styled, slanting, stated, ofTwo, forWeight, forWidth, forStyle, FacesToTry}
 
 -- item 12's numbers, each computed by itself
 nearest-1 : fixedToSingle 16777217 ≡ fin false 1 (pos 8)
@@ -30,7 +32,7 @@ unfolding fraction round
 whole-2 = refl
 
 pub tried : FacesToTry
-unfolding single ofInt round add sum mul lt neg toBits isNan toUnsigned toSigned orderKey keyOfBits wholePercent first lower before grouped some every last zeroAngle fourteen minusFourteen fourHundred fiveHundred angle oblique widthStanding normalStanding italicStanding otherStanding rightStanding leftStanding styleStanding weightStanding samePercent bears slantAt inWidth inStyle inWeight bearerOf bearer hasGroup widthBefore styleBefore weightBefore standsBefore standsFirst choice styleNumber axisAt axisCount axisPlace hasAxis slnt faceOf blank familyOf requestOf emboldened degreesOf leansRight obliqueSkew skewOf fraction minusFraction attributesAt faceWith weighing wide styled slanting stated chosenOf forWeight forWidth forStyle fixed
+unfolding acceptedRatio acceptedAngle acceptedStyle acceptedAttributes axisOf acceptedAxis acceptedFace refusalOf faceRefusal single ofInt round add sum mul lt le neg toBits isNan toUnsigned toSigned orderKey keyOfBits wholePercent first lower before grouped some every last zeroAngle fourteen minusFourteen fourHundred fiveHundred angle oblique widthStanding normalStanding italicStanding otherStanding sideStanding rightStanding leftStanding obliqueStanding styleStanding weightStanding samePercent bears slantAt inWidth inStyle inWeight bearerOf bearer hasGroup widthBefore styleBefore weightBefore standsBefore standsFirst choice styleNumber axisAt axisCount axisPlace hasAxis slnt faceOf blank familyOf requestOf refusedAs facesRefusal familyRefusal answered matchFont wdth wght ital widthSetting weightSetting emboldened degreesOf leansRight italicLean obliqueLean leanOf settingOf skewOf unvaried put added synthesized variesOf synthesisRefusal synthesisOf fraction minusFraction faceWith weighing wide styled slanting stated ofTwo forWeight forWidth forStyle
 tried =
     record {
       item1 = λ on. refl;

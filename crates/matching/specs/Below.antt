@@ -1,13 +1,9 @@
 -- Places below a number: whether some or every one has a property, and the last that has it.
 use Prim.Native.Nat.{ℕ, zero, suc}
-use mathlib.Core.Bool.{Bool, false, _||_, cond}
+use mathlib.Core.Bool.{Bool, cond}
 use mathlib.Core.List.{List, [], _∷_, _++_}
--- whether every one has it is the lower crate's definition
-unfoldable pub use Rattle.font.specs.First.{every}
-
-unfoldable pub some : (ℕ → Bool) → ℕ → Bool
-some p zero = false
-some p (suc n) = some p n || p n
+-- whether some or every one has it is the lower crate's definition
+unfoldable pub use Rattle.font.specs.First.{some, every}
 
 -- the last i below n that p holds of, or 0 where there is none
 unfoldable pub last : (ℕ → Bool) → ℕ → ℕ

@@ -2,9 +2,11 @@
 pub mod Rank
 pub mod Below
 pub mod Order
-pub mod Packed
 pub mod Matching
-pub mod Rows
 pub mod Family
 pub mod Synthesis
+-- Section 7's items, one statement about these.
 pub mod Faces
+-- How the code carries a face and a rank: nothing here is a promise to a user.
+pub mod Packed
+pub mod Rows

@@ -13,7 +13,7 @@ use Rattle.matching.specs.declared.rank.Standing.the-variants.{Up, Down,
 use Rattle.matching.specs.declared.stages.Places.{Places}
 -- A request: its whole percent, its style and weight as numbers, as those of a face, and whether synthesis is on.
 use Rattle.matching.specs.declared.order.Request.{Request}
-use Rattle.matching.specs.Rank.{before, grouped}
+use Rattle.matching.specs.Rank.{before, grouped, OneGroupATurn}
 use Rattle.matching.specs.Below.{some, every, last, placesBelow}
 
 -- A face: its whole percent, its style, its weight, its exact ratio, and whether it has a slant axis (`slnt`). The order looks at all but the exact ratio, which
@@ -77,7 +77,7 @@ italicStanding s =
     (cond (oblique s && ltb (angle s) zeroAngle) (Down 3 (angle s)) (Up 4 0)))
 
 -- "Every oblique then: synthesis off: italic; the other side, zero included (a ≥ 0: x ≤ 0 down; a < 0: x ≥ 0 up); normal.
--- On, without a slant axis at that width: normal; the rest by place. On, with one: no face."
+-- On, without a slant axis (`slnt`) at that width: normal; the rest by place. On, with one: no face."
 unfoldable pub otherStanding : Bool → Bool → ℕ → ℕ → Standing
 otherStanding false slant a s =
     cond (eqb s 1)
@@ -86,23 +86,29 @@ otherStanding false slant a s =
 otherStanding true false a s = cond (eqb s 0) (Up 3 0) (Up 4 0)
 otherStanding true true a s = Nowhere
 
+-- the turn of that one of two groups which comes first where the test holds
+abbrev pub turnOf : Bool → ℕ
+turnOf first = cond first 1 2
+
+-- What the next two sentences share: on the request's side, a group beyond the request, which comes first where `first` holds, and one between zero and it. Past
+-- the bound of 14 or −14 the two change turns. Faces of neither stand as `rest` says.
+unfoldable pub sideStanding : Bool → Bool → Bool → (ℕ → Standing) → (ℕ → Standing) → Standing → Standing
+sideStanding first beyond between far near rest = cond beyond (far (turnOf first)) (cond between (near (turnOf (not first))) rest)
+
 -- "Oblique a ≥ 14: x ≥ a up; 0 < x < a down. For 0 ≤ a < 14 these two groups change turns."
-unfoldable pub rightStanding : Bool → Bool → ℕ → ℕ → Standing
-rightStanding synthesis slant a s =
-    cond (oblique s && leb a (angle s))
-    (Up (cond (leb fourteen a) 1 2) (angle s))
-    (cond (oblique s && ltb zeroAngle (angle s))
-    (Down (cond (leb fourteen a) 2 1) (angle s))
-    (otherStanding synthesis slant a s))
+unfoldable pub rightStanding : ℕ → ℕ → Standing → Standing
+rightStanding a s rest =
+    sideStanding (leb fourteen a) (oblique s && leb a (angle s)) (oblique s && ltb zeroAngle (angle s)) (λ t. Up t (angle s)) (λ t. Down t (angle s)) rest
 
 -- "Oblique −14 < a < 0: a < x < 0 up; x ≤ a down. For a ≤ −14 these change turns."
-unfoldable pub leftStanding : Bool → Bool → ℕ → ℕ → Standing
-leftStanding synthesis slant a s =
-    cond (oblique s && leb (angle s) a)
-    (Down (cond (ltb minusFourteen a) 2 1) (angle s))
-    (cond (oblique s && ltb (angle s) zeroAngle)
-    (Up (cond (ltb minusFourteen a) 1 2) (angle s))
-    (otherStanding synthesis slant a s))
+unfoldable pub leftStanding : ℕ → ℕ → Standing → Standing
+leftStanding a s rest =
+    sideStanding (leb a minusFourteen) (oblique s && leb (angle s) a) (oblique s && ltb (angle s) zeroAngle) (λ t. Down t (angle s)) (λ t. Up t (angle s)) rest
+
+-- an oblique request of zero or more, or under zero; "every oblique then" as `otherStanding` says
+unfoldable pub obliqueStanding : Bool → Bool → ℕ → ℕ → Standing
+obliqueStanding synthesis slant a s =
+    cond (leb zeroAngle a) (rightStanding a s (otherStanding synthesis slant a s)) (leftStanding a s (otherStanding synthesis slant a s))
 
 -- "The equal style is the first group, then these". `slant` says whether there is a slant axis at that width; w is the requested style.
 unfoldable pub styleStanding : Bool → Bool → ℕ → ℕ → Standing
@@ -111,9 +117,7 @@ styleStanding synthesis slant w s =
     (Up 0 0)
     (cond (eqb w 0)
     (normalStanding s)
-    (cond (eqb w 1)
-    (italicStanding s)
-    (cond (leb zeroAngle (angle w)) (rightStanding synthesis slant (angle w) s) (leftStanding synthesis slant (angle w) s))))
+    (cond (eqb w 1) (italicStanding s) (obliqueStanding synthesis slant (angle w) s)))
 
 -- "Weight w, among faces of the chosen style: equal first, earliest place. For 400 ≤ w ≤ 500: w to 500 up; below w down; above 500 up.
 -- Under 400: below down; above up. Over 500: above up; below down."
@@ -126,6 +130,12 @@ weightStanding w x =
     (cond (ltb fiveHundred w)
     (cond (ltb w x) (Up 1 x) (Down 2 x))
     (cond (ltb x w) (Down 2 x) (cond (leb x fiveHundred) (Up 1 x) (Up 3 x)))))
+
+-- each of the three rankings, whatever is requested; proved in proofs/Turns.antt
+pub record OneGroupEach : Type 0 where
+  pub widths : (w : ℕ) → OneGroupATurn (widthStanding w)
+  pub styles : (synthesis slant : Bool) (w : ℕ) → OneGroupATurn (styleStanding synthesis slant w)
+  pub weights : (w : ℕ) → OneGroupATurn (weightStanding w)
 
 module _ (family : Family) where
   -- the face at place j has the percent of the one at place i; and the same style besides
@@ -199,7 +209,7 @@ module _ (family : Family) (request : Request) where
   chosenWidth = first (λ i. every (λ j. not (widthBefore j i)) (family .count)) (family .count)
 
   -- Demand 3: "no face is chosen exactly when an oblique is requested with synthesis on, and at the chosen width no face has that style, none has an angle on its
-  -- side, and some face has a slant axis."
+  -- side .., and some face has a slant axis."
   unfoldable pub emptyCase : Bool
   emptyCase =
       oblique (request .style)

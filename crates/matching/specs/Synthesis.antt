@@ -1,6 +1,6 @@
 -- Section 5: synthesis.
 use Prim.Native.Nat.{ℕ, _+_}
-use mathlib.Core.Bool.{Bool, false, not, _&&_, _||_, cond}
+use mathlib.Core.Bool.{Bool, false, not, _&&_, cond}
 use mathlib.Core.List.{[], _∷_}
 use lib.Dec.{ltb, eqb}
 use lib.IntN.{ℤ, pos}
@@ -17,6 +17,8 @@ use Rattle.font.specs.declared.attributes.Attributes.{Attributes}
 use Rattle.font.specs.declared.font.FontInfo.{FontInfo}
 use Rattle.matching.specs.declared.synthesis.Setting.{Setting}
 use Rattle.matching.specs.declared.synthesis.Setting.the-variants.{Unset, Set}
+use Rattle.matching.specs.declared.synthesis.Lean.{Lean}
+use Rattle.matching.specs.declared.synthesis.Lean.the-variants.{Upright, Varied, Skewed}
 use Rattle.matching.specs.declared.synthesis.Varies.{Varies}
 use Rattle.matching.specs.declared.synthesis.Synthesis.{Synthesis}
 use Rattle.matching.specs.Order.{zeroAngle}
@@ -52,36 +54,34 @@ degreesOf Unstated = single 14
 degreesOf (Degrees x) = x
 
 -- "Italic: `ital` 1, else `slnt` 14, else skew 14."
-unfoldable pub italicSetting : Varies → Setting
-italicSetting v = cond (v .italic) (Set ital (single 1)) (cond (v .slant) (Set slnt (single 14)) Unset)
+unfoldable pub italicLean : Varies → Lean
+italicLean v = cond (v .italic) (Varied ital (single 1)) (cond (v .slant) (Varied slnt (single 14)) (Skewed (pos 14)))
 
-unfoldable pub italicSkew : Varies → ℤ
-italicSkew v = cond (v .italic || v .slant) (pos 0) (pos 14)
-
--- "Oblique: `slnt` degrees; else, if degrees > 0, `ital` 1; else skew, degrees truncated toward zero and held to −128 to 127."
+-- "Oblique (unstated = 14): `slnt` degrees; else, if degrees > 0, `ital` 1; else skew, degrees truncated toward zero and held to −128 to 127."
 unfoldable pub leansRight : Varies → Float → Bool
 leansRight v d = v .italic && ltb zeroAngle (orderKey d)
 
-unfoldable pub obliqueSetting : Varies → Float → Setting
-obliqueSetting v d = cond (v .slant) (Set slnt d) (cond (leansRight v d) (Set ital (single 1)) Unset)
-
-unfoldable pub obliqueSkew : Varies → Float → ℤ
-obliqueSkew v d = cond (v .slant || leansRight v d) (pos 0) (toSigned 7 d)
+unfoldable pub obliqueLean : Varies → Float → Lean
+obliqueLean v d = cond (v .slant) (Varied slnt d) (cond (leansRight v d) (Varied ital (single 1)) (Skewed (toSigned 7 d)))
 
 -- "Style matters only for a normal face and another requested style." The face's own style comes first.
-unfoldable pub styleSetting : Varies → FontStyle → FontStyle → Setting
-styleSetting v Normal Normal = Unset
-styleSetting v Normal Italic = italicSetting v
-styleSetting v Normal (Oblique a) = obliqueSetting v (degreesOf a)
-styleSetting v Italic w = Unset
-styleSetting v (Oblique b) w = Unset
+unfoldable pub leanOf : Varies → FontStyle → FontStyle → Lean
+leanOf v Normal Normal = Upright
+leanOf v Normal Italic = italicLean v
+leanOf v Normal (Oblique a) = obliqueLean v (degreesOf a)
+leanOf v Italic w = Upright
+leanOf v (Oblique b) w = Upright
 
-unfoldable pub skewOf : Varies → FontStyle → FontStyle → ℤ
-skewOf v Normal Normal = pos 0
-skewOf v Normal Italic = italicSkew v
-skewOf v Normal (Oblique a) = obliqueSkew v (degreesOf a)
-skewOf v Italic w = pos 0
-skewOf v (Oblique b) w = pos 0
+-- the setting of a lean, and its skew
+unfoldable pub settingOf : Lean → Setting
+settingOf Upright = Unset
+settingOf (Varied tag value) = Set tag value
+settingOf (Skewed degrees) = Unset
+
+unfoldable pub skewOf : Lean → ℤ
+skewOf Upright = pos 0
+skewOf (Varied tag value) = pos 0
+skewOf (Skewed degrees) = degrees
 
 -- no settings
 unfoldable pub unvaried : ℕ → Bool → ℤ → Synthesis
@@ -119,10 +119,10 @@ synthesized own v a =
     added
     (added
     (added
-    (unvaried 0 (emboldened v (own .weight .value) (a .weight .value)) (skewOf v (own .style) (a .style)))
+    (unvaried 0 (emboldened v (own .weight .value) (a .weight .value)) (skewOf (leanOf v (own .style) (a .style))))
     (widthSetting v (own .width .ratio) (a .width .ratio)))
     (weightSetting v (a .weight .value)))
-    (styleSetting v (own .style) (a .style))
+    (settingOf (leanOf v (own .style) (a .style)))
 
 -- a face's axes, as synthesis looks at them
 unfoldable pub variesOf : FontInfo → Varies

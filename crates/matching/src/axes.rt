@@ -3,16 +3,16 @@ ghost use mathlib.Core.Path.{_≡_};
 ghost use Rattle.matching.specs.Matching.{axisCount, axisPlace, hasAxis};
 use font::font::FontInfo;
 
-pub const WDTH: u32 = 0x7764_7468;
+pub(crate) const WDTH: u32 = 0x7764_7468;
 
-pub const WGHT: u32 = 0x7767_6874;
+pub(crate) const WGHT: u32 = 0x7767_6874;
 
 pub const SLNT: u32 = 0x736C_6E74;
 
-pub const ITAL: u32 = 0x6974_616C;
+pub(crate) const ITAL: u32 = 0x6974_616C;
 
 // How many axes a face has: at most 16.
-pub fn axis_count(font: FontInfo) -> usize
+pub(crate) fn axis_count(font: FontInfo) -> usize
     ensures { λ r. ⌜ r ≡ axisCount font ⌝ }
 {
     if font.axis_count < 16 {
@@ -23,7 +23,7 @@ pub fn axis_count(font: FontInfo) -> usize
 }
 
 // The place of the first axis with the tag, or the count of axes where there is none.
-pub fn axis_place(font: FontInfo, tag: u32) -> usize
+pub(crate) fn axis_place(font: FontInfo, tag: u32) -> usize
     ensures { λ r. ⌜ r ≡ axisPlace font tag ⌝ }
 {
     let count = axis_count(font);
@@ -39,7 +39,7 @@ pub fn axis_place(font: FontInfo, tag: u32) -> usize
 }
 
 // Whether a face has an axis with the tag.
-pub fn has_axis(font: FontInfo, tag: u32) -> bool
+pub(crate) fn has_axis(font: FontInfo, tag: u32) -> bool
     ensures { λ r. ⌜ r ≡ hasAxis font tag ⌝ }
 {
     axis_place(font, tag) < axis_count(font)

@@ -4,7 +4,7 @@ pub mod face;
 pub mod family;
 pub mod matching;
 pub mod order;
-pub mod rank;
+mod rank;
 pub mod rows;
 pub mod stages;
 pub mod synthesis;

@@ -64,7 +64,7 @@ fn either_refusal(before: u8, found: u8) -> u8
 }
 
 // The refusal of a family's faces: 19, 26 or 0.
-pub fn faces_refusal(fonts: [FontInfo; 64], count: usize) -> u8
+pub(crate) fn faces_refusal(fonts: [FontInfo; 64], count: usize) -> u8
     ensures { λ r. ⌜ r ≡ facesRefusal fonts count ⌝ }
 {
     if 64 < count {
@@ -85,7 +85,7 @@ pub fn faces_refusal(fonts: [FontInfo; 64], count: usize) -> u8
 }
 
 // The refusal of a call on a family with a request: 19, 26 or 0.
-pub fn family_refusal(fonts: [FontInfo; 64], count: usize, attributes: Attributes) -> u8
+fn family_refusal(fonts: [FontInfo; 64], count: usize, attributes: Attributes) -> u8
     ensures { λ r. ⌜ r ≡ familyRefusal fonts count attributes ⌝ }
 {
     let refusal = faces_refusal(fonts, count);

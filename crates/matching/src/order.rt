@@ -1,10 +1,10 @@
 // The order of faces: where a percent, a style and a weight stand for a request.
 ghost use mathlib.Core.Path.{_≡_};
-ghost use Rattle.matching.specs.Order.{angle, widthStanding, normalStanding, italicStanding, otherStanding, rightStanding, leftStanding, styleStanding, weightStanding};
+ghost use Rattle.matching.specs.Order.{angle, widthStanding, normalStanding, italicStanding, otherStanding, turnOf, obliqueStanding, styleStanding, weightStanding};
 use crate::rank::Standing;
 
 // Order numbers, raised by 2^31: of the angles 0, 14 and -14, and of the weights 400 and 500.
-const ZERO_ANGLE: u32 = 0x8000_0000;
+pub(crate) const ZERO_ANGLE: u32 = 0x8000_0000;
 
 const FOURTEEN: u32 = 0xC160_0000;
 
@@ -23,7 +23,7 @@ pub struct Request {
 }
 
 // Where a percent stands.
-pub fn width_standing(wanted: u32, percent: u32) -> Standing
+pub(crate) fn width_standing(wanted: u32, percent: u32) -> Standing
     ensures { λ r. ⌜ r ≡ widthStanding wanted percent ⌝ }
 {
     if percent == wanted {
@@ -42,7 +42,7 @@ pub fn width_standing(wanted: u32, percent: u32) -> Standing
 }
 
 // The angle that a style ranks by: 14 where unstated.
-pub fn angle_of(style: u32) -> u32
+fn angle_of(style: u32) -> u32
     ensures { λ r. ⌜ r ≡ angle style ⌝ }
 {
     if style == 2 { FOURTEEN } else { style }
@@ -107,54 +107,43 @@ fn other_standing(synthesis: bool, slant: bool, wanted: u32, style: u32) -> Stan
     Standing::Up(4, angle_of(style))
 }
 
-// Where a style stands for an oblique request of zero or more.
-fn right_standing(synthesis: bool, slant: bool, wanted: u32, style: u32) -> Standing
-    ensures { λ r. ⌜ r ≡ rightStanding synthesis slant wanted style ⌝ }
+// The turn of the one of two groups that comes first where the test holds.
+fn turn(first: bool) -> u8
+    ensures { λ r. ⌜ r ≡ turnOf first ⌝ }
 {
-    if style < 2 {
-        return other_standing(synthesis, slant, wanted, style);
-    }
-    let angle = angle_of(style);
-    if wanted <= angle {
-        if FOURTEEN <= wanted {
-            return Standing::Up(1, angle);
-        }
-        return Standing::Up(2, angle);
-    }
-    if ZERO_ANGLE < angle {
-        if FOURTEEN <= wanted {
-            return Standing::Down(2, angle);
-        }
-        return Standing::Down(1, angle);
-    }
-    other_standing(synthesis, slant, wanted, style)
+    if first { 1 } else { 2 }
 }
 
-// Where a style stands for an oblique request under zero.
-fn left_standing(synthesis: bool, slant: bool, wanted: u32, style: u32) -> Standing
-    ensures { λ r. ⌜ r ≡ leftStanding synthesis slant wanted style ⌝ }
+// Where a style stands for an oblique request: its own side, of zero or more or under zero, and then the rest.
+fn oblique_standing(synthesis: bool, slant: bool, wanted: u32, style: u32) -> Standing
+    ensures { λ r. ⌜ r ≡ obliqueStanding synthesis slant wanted style ⌝ }
 {
     if style < 2 {
         return other_standing(synthesis, slant, wanted, style);
     }
     let lean = angle_of(style);
-    if lean <= wanted {
-        if MINUS_FOURTEEN < wanted {
-            return Standing::Down(2, lean);
+    if ZERO_ANGLE <= wanted {
+        let first = FOURTEEN <= wanted;
+        if wanted <= lean {
+            return Standing::Up(turn(first), lean);
         }
-        return Standing::Down(1, lean);
-    }
-    if lean < ZERO_ANGLE {
-        if MINUS_FOURTEEN < wanted {
-            return Standing::Up(1, lean);
+        if ZERO_ANGLE < lean {
+            return Standing::Down(turn(!first), lean);
         }
-        return Standing::Up(2, lean);
+    } else {
+        let first = wanted <= MINUS_FOURTEEN;
+        if lean <= wanted {
+            return Standing::Down(turn(first), lean);
+        }
+        if lean < ZERO_ANGLE {
+            return Standing::Up(turn(!first), lean);
+        }
     }
     other_standing(synthesis, slant, wanted, style)
 }
 
 // Where a style stands; `slant` says whether a slant axis is at that width.
-pub fn style_standing(synthesis: bool, slant: bool, wanted: u32, style: u32) -> Standing
+pub(crate) fn style_standing(synthesis: bool, slant: bool, wanted: u32, style: u32) -> Standing
     ensures { λ r. ⌜ r ≡ styleStanding synthesis slant wanted style ⌝ }
 {
     if style == wanted {
@@ -166,15 +155,11 @@ pub fn style_standing(synthesis: bool, slant: bool, wanted: u32, style: u32) -> 
     if wanted == 1 {
         return italic_standing(style);
     }
-    let angle = angle_of(wanted);
-    if ZERO_ANGLE <= angle {
-        return right_standing(synthesis, slant, angle, style);
-    }
-    left_standing(synthesis, slant, angle, style)
+    oblique_standing(synthesis, slant, angle_of(wanted), style)
 }
 
 // Where a weight stands.
-pub fn weight_standing(wanted: u32, weight: u32) -> Standing
+pub(crate) fn weight_standing(wanted: u32, weight: u32) -> Standing
     ensures { λ r. ⌜ r ≡ weightStanding wanted weight ⌝ }
 {
     if weight == wanted {

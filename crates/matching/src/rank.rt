@@ -4,7 +4,7 @@ ghost use Prim.Native.Nat.{_<_, min};
 ghost use Rattle.matching.specs.Packed.{packed, placeOf};
 
 // Where a thing stands: the turn of its group and its order number there, or in no group.
-pub enum Standing {
+pub(crate) enum Standing {
     Up(u8, u32),
     Down(u8, u32),
     Nowhere,

@@ -117,7 +117,7 @@ fn weight_stage(rows: &[Row; 64], count: usize, percent: u32, style: u32, reques
 }
 
 // The chosen place, or the count where no face is chosen.
-// Only our own crates call this, `default_place` and `equal_places`: a family over 64 faces is refused before.
+// Only our own crates call this and `default_place`: a family over 64 faces is refused before.
 pub fn choose(rows: &[Row; 64], count: usize, request: Request) -> usize
     requires { ⌜ count ≤ 64 ⌝ }
     ensures { λ r. ⌜ r ≡ choice (familyOfRows (now (rows .entry)) count) request ⌝ }
@@ -154,7 +154,7 @@ pub struct Places {
 }
 
 // No places.
-pub fn none() -> Places
+pub(crate) fn none() -> Places
     ensures { λ r. ⌜ r ≡ laidOut [] ⌝ }
 {
     Places {
@@ -165,7 +165,7 @@ pub fn none() -> Places
 
 // Every place whose exact ratio, style and weight equal the chosen face's, in place order.
 // The count, as any number not below it, stands for no chosen face, which has no equal place.
-pub fn equal_places(rows: &[Row; 64], count: usize, chosen: usize) -> Places
+pub(crate) fn equal_places(rows: &[Row; 64], count: usize, chosen: usize) -> Places
     requires { ⌜ count ≤ 64 ⌝ }
     ensures { λ r. ⌜ r ≡ laidOut (equalPlaces (familyOfRows (now (rows .entry)) count) chosen) ⌝ }
 {

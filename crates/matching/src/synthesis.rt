@@ -1,7 +1,8 @@
 // Synthesis: the variation settings, emboldening and skew that bring a face to a request.
 ghost use mathlib.Core.Path.{_≡_};
-ghost use Rattle.matching.specs.Synthesis.{widthSetting, weightSetting, emboldened, degreesOf, italicSetting, italicSkew, leansRight, obliqueSetting, obliqueSkew, styleSetting, skewOf, unvaried, put, added, synthesized};
+ghost use Rattle.matching.specs.Synthesis.{widthSetting, weightSetting, emboldened, degreesOf, italicLean, leansRight, obliqueLean, leanOf, settingOf, skewOf, unvaried, put, added, synthesized};
 use crate::axes;
+use crate::order;
 use font::attributes::Angle;
 use font::attributes::Attributes;
 use font::attributes::FontStyle;
@@ -11,6 +12,13 @@ use font::single;
 pub enum Setting {
     Unset,
     Set(u32, f32),
+}
+
+// How a face is brought to a style: as it stands, by a variation setting, or by a skew in degrees.
+enum Lean {
+    Upright,
+    Varied(u32, f32),
+    Skewed(i8),
 }
 
 // Which axes a face has, and the default of its first `wght`.
@@ -31,9 +39,6 @@ pub struct Synthesis {
     pub embolden: bool,
     pub skew: i8,
 }
-
-// The order number of zero degrees, raised by 2^31.
-const ZERO_ANGLE: u32 = 0x8000_0000;
 
 fn width_setting(varies: Varies, own: f32, wanted: f32) -> Setting
     ensures { λ r. ⌜ r ≡ widthSetting varies own wanted ⌝ }
@@ -68,7 +73,7 @@ fn emboldens(varies: Varies, own: f32, wanted: f32) -> bool
 }
 
 // The degrees of an oblique: 14 where unstated.
-pub fn degrees(angle: Angle) -> f32
+fn degrees(angle: Angle) -> f32
     ensures { λ r. ⌜ r ≡ degreesOf angle ⌝ }
 {
     match angle {
@@ -77,28 +82,16 @@ pub fn degrees(angle: Angle) -> f32
     }
 }
 
-fn italic_setting(varies: Varies) -> Setting
-    ensures { λ r. ⌜ r ≡ italicSetting varies ⌝ }
+fn italic_lean(varies: Varies) -> Lean
+    ensures { λ r. ⌜ r ≡ italicLean varies ⌝ }
 {
     if varies.italic {
-        return Setting::Set(axes::ITAL, 1.0);
+        return Lean::Varied(axes::ITAL, 1.0);
     }
     if varies.slant {
-        return Setting::Set(axes::SLNT, 14.0);
+        return Lean::Varied(axes::SLNT, 14.0);
     }
-    Setting::Unset
-}
-
-fn italic_skew(varies: Varies) -> i8
-    ensures { λ r. ⌜ r ≡ italicSkew varies ⌝ }
-{
-    if varies.italic {
-        return 0;
-    }
-    if varies.slant {
-        return 0;
-    }
-    14
+    Lean::Skewed(14)
 }
 
 // Whether the italic axis stands in for a slant to the right.
@@ -106,62 +99,56 @@ fn leans_right(varies: Varies, degrees: f32) -> bool
     ensures { λ r. ⌜ r ≡ leansRight varies degrees ⌝ }
 {
     if varies.italic {
-        ZERO_ANGLE < single::order_number(degrees)
+        order::ZERO_ANGLE < single::order_number(degrees)
     } else {
         false
     }
 }
 
-fn oblique_setting(varies: Varies, degrees: f32) -> Setting
-    ensures { λ r. ⌜ r ≡ obliqueSetting varies degrees ⌝ }
+fn oblique_lean(varies: Varies, degrees: f32) -> Lean
+    ensures { λ r. ⌜ r ≡ obliqueLean varies degrees ⌝ }
 {
     if varies.slant {
-        return Setting::Set(axes::SLNT, degrees);
+        return Lean::Varied(axes::SLNT, degrees);
     }
     if leans_right(varies, degrees) {
-        return Setting::Set(axes::ITAL, 1.0);
+        return Lean::Varied(axes::ITAL, 1.0);
     }
-    Setting::Unset
-}
-
-fn oblique_skew(varies: Varies, degrees: f32) -> i8
-    ensures { λ r. ⌜ r ≡ obliqueSkew varies degrees ⌝ }
-{
-    if varies.slant {
-        return 0;
-    }
-    if leans_right(varies, degrees) {
-        return 0;
-    }
-    single::truncate_to_i8(degrees)
+    Lean::Skewed(single::truncate_to_i8(degrees))
 }
 
 // Style matters only for a normal face and another requested style.
-fn style_setting(varies: Varies, own: FontStyle, wanted: FontStyle) -> Setting
-    ensures { λ r. ⌜ r ≡ styleSetting varies own wanted ⌝ }
+fn lean_of(varies: Varies, own: FontStyle, wanted: FontStyle) -> Lean
+    ensures { λ r. ⌜ r ≡ leanOf varies own wanted ⌝ }
 {
     match own {
         FontStyle::Normal => match wanted {
-            FontStyle::Normal => Setting::Unset,
-            FontStyle::Italic => italic_setting(varies),
-            FontStyle::Oblique(angle) => oblique_setting(varies, degrees(angle)),
+            FontStyle::Normal => Lean::Upright,
+            FontStyle::Italic => italic_lean(varies),
+            FontStyle::Oblique(angle) => oblique_lean(varies, degrees(angle)),
         },
-        FontStyle::Italic => Setting::Unset,
-        FontStyle::Oblique(_) => Setting::Unset,
+        FontStyle::Italic => Lean::Upright,
+        FontStyle::Oblique(_) => Lean::Upright,
     }
 }
 
-fn skew_of(varies: Varies, own: FontStyle, wanted: FontStyle) -> i8
-    ensures { λ r. ⌜ r ≡ skewOf varies own wanted ⌝ }
+fn setting_of(lean: Lean) -> Setting
+    ensures { λ r. ⌜ r ≡ settingOf lean ⌝ }
 {
-    match own {
-        FontStyle::Normal => match wanted {
-            FontStyle::Normal => 0,
-            FontStyle::Italic => italic_skew(varies),
-            FontStyle::Oblique(angle) => oblique_skew(varies, degrees(angle)),
-        },
-        FontStyle::Italic => 0,
-        FontStyle::Oblique(_) => 0,
+    match lean {
+        Lean::Upright => Setting::Unset,
+        Lean::Varied(tag, value) => Setting::Set(tag, value),
+        Lean::Skewed(_) => Setting::Unset,
+    }
+}
+
+fn skew_of(lean: Lean) -> i8
+    ensures { λ r. ⌜ r ≡ skewOf lean ⌝ }
+{
+    match lean {
+        Lean::Upright => 0,
+        Lean::Varied(_, _) => 0,
+        Lean::Skewed(degrees) => degrees,
     }
 }
 
@@ -181,7 +168,7 @@ impl Synthesis {
     }
 
     // One setting more, in the next slot; a fourth is refused.
-    pub fn put(mut self, tag: u32, value: f32) -> Self
+    fn put(mut self, tag: u32, value: f32) -> Self
         ensures { λ r. ⌜ r ≡ put self tag value ⌝ }
     {
         let len = self.len;
@@ -196,7 +183,7 @@ impl Synthesis {
         self
     }
 
-    pub fn added(self, setting: Setting) -> Self
+    fn added(self, setting: Setting) -> Self
         ensures { λ r. ⌜ r ≡ added self setting ⌝ }
     {
         match setting {
@@ -213,9 +200,9 @@ pub fn synthesize(own: Attributes, varies: Varies, request: Attributes) -> Synth
     let own_style = own.style;
     let style = request.style;
     let embolden = emboldens(varies, own.weight.value, request.weight.value);
-    let skew = skew_of(varies, own_style, style);
-    Synthesis::unvaried(0, embolden, skew)
+    let lean = lean_of(varies, own_style, style);
+    Synthesis::unvaried(0, embolden, skew_of(lean))
         .added(width_setting(varies, own.width.ratio, request.width.ratio))
         .added(weight_setting(varies, request.weight.value))
-        .added(style_setting(varies, own_style, style))
+        .added(setting_of(lean))
 }

@@ -1,5 +1,4 @@
-use borrow.Author.Tests.{le-leb, lt-leb, eq-eqb, ne-eqb}
-use Rattle.matching.proofs.Numbers.{zero-angle}
+use borrow.Author.Tests.{eq-eqb, ne-eqb}
 use Rattle.matching.specs.Order.{styleStanding}
 use borrow.Author.Needs.{needs}
 use Rattle.matching.proofs.order.style_standing.Statement.{statement}
@@ -26,19 +25,12 @@ returns-3 c = simp (c .italic-standing .ensures, ne-eqb _ _ (c .before .before .
 angle-of-requires : tie.Need-angle-of-requires
 angle-of-requires c κs = search needs
 
-right-standing-requires : tie.Need-right-standing-requires
-right-standing-requires c κs = search needs
+oblique-standing-requires : tie.Need-oblique-standing-requires
+oblique-standing-requires c κs = search needs
 
 returns-4 : tie.Need-returns-4
 unfolding styleStanding
-returns-4 c = simp (zero-angle, c .right-standing .ensures, ← c .before .before .angle-of .ensures, ne-eqb _ _ (c .before .before .before .before .before .if1 .left), ne-eqb _ _ (c .before .before .before .before .if2 .left), ne-eqb _ _ (c .before .before .before .if3 .left), le-leb _ _ (c .before .if4 .taken))
-
-left-standing-requires : tie.Need-left-standing-requires
-left-standing-requires c κs = search needs
-
-returns-5 : tie.Need-returns-5
-unfolding styleStanding
-returns-5 c = simp (zero-angle, c .left-standing .ensures, ← c .before .before .angle-of .ensures, ne-eqb _ _ (c .before .before .before .before .before .if1 .left), ne-eqb _ _ (c .before .before .before .before .if2 .left), ne-eqb _ _ (c .before .before .before .if3 .left), lt-leb _ _ (c .before .if4 .left))
+returns-4 c = simp (c .oblique-standing .ensures, ← c .before .angle-of .ensures, ne-eqb _ _ (c .before .before .before .before .if1 .left), ne-eqb _ _ (c .before .before .before .if2 .left), ne-eqb _ _ (c .before .before .if3 .left))
 
 pub style-standing-spec : {M : Type 1} → statement M
 style-standing-spec =
@@ -50,7 +42,5 @@ style-standing-spec =
     italic-standing-requires
     returns-3
     angle-of-requires
-    right-standing-requires
-    returns-4
-    left-standing-requires
-    returns-5)
+    oblique-standing-requires
+    returns-4)

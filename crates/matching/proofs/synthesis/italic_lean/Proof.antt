@@ -1,0 +1,20 @@
+use Rattle.matching.proofs.Numbers.{single-1, single-14}
+use Rattle.matching.specs.Matching.{slnt}
+use Rattle.matching.specs.Synthesis.{italicLean, ital}
+use Rattle.matching.proofs.synthesis.italic_lean.Statement.{statement}
+use Rattle.matching.proofs.synthesis.italic_lean.Tie as tie
+
+returns : tie.Need-returns
+unfolding italicLean ital slnt
+returns c = simp (c .if1 .taken, single-1)
+
+returns-2 : tie.Need-returns-2
+unfolding italicLean ital slnt
+returns-2 c = simp (c .before .if1 .left, c .if2 .taken, single-14)
+
+returns-3 : tie.Need-returns-3
+unfolding italicLean ital slnt
+returns-3 c = simp (c .before .if1 .left, c .if2 .left)
+
+pub italic-lean-spec : {M : Type 1} → statement M
+italic-lean-spec = tie.close (tie.spec returns returns-2 returns-3)
