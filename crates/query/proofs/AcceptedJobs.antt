@@ -1,6 +1,6 @@
 -- A byte string is accepted exactly when it is the layout of a job within the limits, and it is read as that job, to its end.
 use Prim.Native.Nat.{ℕ, _≤_}
-use mathlib.Core.Path.{_≡_, refl, sym, ap, _∙_, subst}
+use mathlib.Core.Path.{_≡_, sym, ap, _∙_, subst}
 use mathlib.Core.List.{List, _++_, append-nil}
 use mathlib.Core.Logic.{_↔_}
 use native.Mathlib.Omega.{arith}
@@ -9,7 +9,7 @@ use lib.Seq.{drop-length}
 use borrow.Author.Tests.{le-leb, le-ltb}
 use Rattle.query.specs.declared.job.Checked.{Checked}
 use Rattle.query.specs.Sizes.{mostBytes, mostFaces, mostOverrides, mostFamilies, mostRequests}
-use Rattle.query.specs.Reader.{Refusal, overlong, pastEnd, overLimit, notHeld, badDirectory, noCharmap, manyAxes, noFace, unknown, badNumber, bytesLeft, number, Got, refused, got}
+use Rattle.query.specs.Reader.{Refusal, overlong, pastEnd, overLimit, notHeld, badDirectory, noCharmap, manyAxes, noFace, unknown, badNumber, bytesLeft, number, got}
 use Rattle.query.specs.Fields.{counted}
 use Rattle.query.specs.Entries.{readFace, readOverride, readFamily, readRequest}
 use Rattle.query.specs.Job.{Job, atEnd, readSections, readJob, answer, checkJob, jobOf}
@@ -128,7 +128,7 @@ accepted-exactly s B = (
 )
 
 -- the table's rows for a job are 17 to 27
-number-row : (w : Refusal) → (17 ≤ number w) × (number w ≤ 27)
+pub number-row : (w : Refusal) → (17 ≤ number w) × (number w ≤ 27)
 unfolding number
 number-row overlong = (omega arith, omega arith)
 number-row pastEnd = (omega arith, omega arith)
@@ -141,15 +141,6 @@ number-row noFace = (omega arith, omega arith)
 number-row unknown = (omega arith, omega arith)
 number-row badNumber = (omega arith, omega arith)
 number-row bytesLeft = (omega arith, omega arith)
-
--- every other byte string is refused by one of these rows
-pub every-other-refused : (s : List ℕ) → Bytes s → (((j : Job) × (s ≡ layout j) × JobFits j) → ⊥) → (17 ≤ checkJob s .refusal) × (checkJob s .refusal ≤ 27)
-unfolding checkJob answer
-every-other-refused s B h = go (readJob s) refl
-  where
-    go : (g : Got Job) → readJob s ≡ g → (17 ≤ answer g .refusal) × (answer g .refusal ≤ 27)
-    go (refused w p) e = number-row w
-    go (got j q) e = let l = accepted-is-a-layout s B j q e in absurd (h (j, l .bytes, l .fits))
 
 -- no two jobs within the limits have one layout
 pub one-job : (i j : Job) → JobFits i → JobFits j → layout i ≡ layout j → i ≡ j

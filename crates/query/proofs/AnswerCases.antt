@@ -8,9 +8,13 @@ use lib.Dec.{ltb, eqb}
 use lib.IntN.{ℤ}
 use lib.ListN.{length, getD}
 use borrow.Author.Tests.{lt-ltb, le-ltb, ltb-true, ltb-false, eq-eqb, ne-eqb}
+use Rattle.font.specs.declared.attributes.Angle.the-variants.{Unstated, Degrees}
+use Rattle.font.specs.declared.attributes.FontStyle.{FontStyle}
+use Rattle.font.specs.declared.attributes.FontStyle.the-variants.{Normal, Italic, Oblique}
 use Rattle.font.specs.declared.attributes.Attributes.{Attributes}
 use Rattle.font.specs.declared.charmap.CharmapIndex.{CharmapIndex}
 use Rattle.font.specs.declared.font.FontInfo.{FontInfo}
+use Rattle.font.specs.Attributes.{acceptedAngle, acceptedStyle, acceptedAttributes}
 use Rattle.font.specs.Overrides.{withOverride}
 use Rattle.font.specs.Font.{fromFontRef}
 use Rattle.font.proofs.Inside.{offset-inside}
@@ -20,6 +24,7 @@ use Rattle.matching.specs.declared.synthesis.Setting.{Setting}
 use Rattle.matching.specs.declared.synthesis.Setting.the-variants.{Unset, Set}
 use Rattle.matching.specs.Matching.{requestOf}
 use Rattle.matching.specs.Synthesis.{unvaried, put, added, synthesized, variesOf}
+use Rattle.matching.proofs.SettingValues.{setting-numbers}
 use Rattle.query.specs.declared.answer.Offer.{Offer}
 use Rattle.query.specs.declared.offers.Offered.{Offered}
 use Rattle.query.specs.declared.offers.Offered.the-variants.{At, Past}
@@ -28,8 +33,8 @@ use Rattle.query.specs.declared.call.SearchResult.{SearchResult}
 use Rattle.query.specs.declared.job.Checked.{Checked}
 use Rattle.query.specs.declared.job.Walked.{Walked}
 use Rattle.query.specs.Sizes.{recordSize}
-use Rattle.query.specs.Reader.{Got, refused, got}
-use Rattle.query.specs.Layout.{Bytes, Every, Fits32, FaceFits}
+use Rattle.query.specs.Reader.{number, Got, refused, got}
+use Rattle.query.specs.Layout.{Bytes, angleOf, Every, Fits32, AngleFits, StyleFits, FaceFits, RequestFits, JobFits}
 use Rattle.query.specs.Entries.{Face, Override, Request}
 use Rattle.query.specs.Job.{Job, readJob, answer, checkJob, jobOf}
 use Rattle.query.specs.View.{View, overriddenBy, afterOverrides, entryOf, viewOf}
@@ -37,7 +42,7 @@ use Rattle.query.specs.Offers.{offerOf, membersOf, offersOf, faceOfOffer
 use Rattle.query.specs.Values.{attributesAt, requestAt}
 use Rattle.query.specs.CallTables.{OfferedFace, LoadAnswer}
 use Rattle.query.specs.Listed.{listedAt, Names, answerAt, Locates, SearchAnswer, LeadsTo}
-use Rattle.query.specs.Record.{recordBytes}
+use Rattle.query.specs.Record.{Numbers, recordBytes}
 use Rattle.query.specs.Call.{Called, withoutOffer, withSynthesis, answered, requestOfJob, requestAnswer, jobAnswer, answerCall, written, unwritten, offerCall, Calls}
 use Rattle.query.proofs.AcceptedJobs.{accepted-is-a-layout}
 use Rattle.query.proofs.Checks.{accepted}
@@ -181,7 +186,7 @@ pub no-fourth : (view : View) (r : Request) (o : Offer) → synthesisOfOffer vie
 unfolding synthesisOfOffer synthesized
 no-fourth view r o = three _ _ _ _ _
 
--- ---- the charmap index of an answer fits 32 bits
+-- ---- what the record of an answer is written from: the charmap index fits 32 bits, and no setting is a NaN
 
 -- what holds of every entry of a list, and of what stands past it, holds at each place
 pub every-at : {A : Type 0} (P : A → Type 0) (d : A) → P d → (xs : List A) → Every P xs → (k : ℕ) → P (getD xs k d)
@@ -190,7 +195,7 @@ every-at P d h [] w k = h
 every-at P d h (x ∷ xs) w zero = w .0
 every-at P d h (x ∷ xs) w (suc k) = every-at P d h xs (w .1) k
 
-abbrev pub Small : CharmapIndex → Type 0
+abbrev Small : CharmapIndex → Type 0
 Small index = index .«subtable_offset» < 2 ^ 32
 
 kept-index : (os : List Override) (i : ℕ) (f : FontInfo) → afterOverrides os i f .«charmap_index» ≡ f .«charmap_index»
@@ -207,47 +212,79 @@ unfolding Every
 font-lengths [] w = w
 font-lengths (f ∷ fs) w = (w .0 .long, font-lengths fs (w .1))
 
+-- the attributes of a request within the limits are accepted
+style-accepted : (t : FontStyle) → StyleFits t → acceptedStyle t ≡ true
+unfolding AngleFits angleOf acceptedStyle acceptedAngle
+style-accepted Normal w = refl
+style-accepted Italic w = refl
+style-accepted (Oblique Unstated) w = refl
+style-accepted (Oblique (Degrees x)) w = w .accepted
+
+request-accepted : (rs : List Request) → Every RequestFits rs → (d : Request) (k : ℕ) → k < length rs → acceptedAttributes (getD rs k d .attributes) ≡ true
+unfolding Every acceptedAttributes
+request-accepted [] w d k l = absurd (omega arith)
+request-accepted (r ∷ rs) w d zero l =
+    rw (w .0 .ratio .accepted, style-accepted (r .attributes .style) (w .0 .style), w .0 .weight .accepted) refl
+request-accepted (r ∷ rs) w d (suc k) l = request-accepted rs (w .1) d k (omega arith)
+
+abbrev pub Writable : Answer → Type 0
+Writable a = Small (a .«charmap_index») × Numbers (a .synthesis)
+
+none-writable : (n : ℕ) → Writable (withoutOffer n)
+unfolding withoutOffer unvaried
+none-writable n = (omega arith, λ i l. absurd (omega arith))
+
+made-writable : (o : Offer) (made : Synthesis) (index : CharmapIndex) → Small index → Numbers made → Writable (withSynthesis o made index)
+unfolding withSynthesis
+made-writable o made index h numbers = go (eqb (made .refusal) 29)
+  where
+    go : (b : Bool) → Writable (cond b (withoutOffer 29) (record { result = 0; offer = o; synthesis = made; «charmap_index» = index }))
+    go true = none-writable 29
+    go false = (h, numbers)
+
+answered-writable : (view : View) (r : Request) → ((i : ℕ) → Small (view .font i .«charmap_index»)) → acceptedAttributes (r .attributes) ≡ true
+    → (a : Offered) → Writable (answered view r a)
+unfolding answered faceOfOffer synthesisOfOffer
+answered-writable view r small fine (At o) =
+    let face = faceOfOffer view o in
+    made-writable o (synthesisOfOffer view r o) (face .«charmap_index») (small (getD (membersOf view (o .family)) (o .place) 0))
+    (setting-numbers (face .attributes) (variesOf face) (r .attributes) fine)
+answered-writable view r small fine Past = none-writable 1
+
 module _ (s : List ℕ) (bytes : Bytes s) where
-  font-small : (j : Job) (e : ℕ) → readJob s ≡ got j e → (i : ℕ) → Small (viewOf j .font i .«charmap_index»)
+  font-small : (j : Job) → JobFits j → (i : ℕ) → Small (viewOf j .font i .«charmap_index»)
   unfolding viewOf entryOf
-  font-small j e read i =
+  font-small j fits i =
       let none : Face = record { held = false; font = [] } in
-      let fits = font-lengths (j .faces) (accepted-is-a-layout s bytes j e read .fits .faces .1) in
       omega (
         arith,
         ap (λ (x : CharmapIndex). x .«subtable_offset») (kept-index (j .overrides) i (fromFontRef (getD (j .faces) i none .font) .font)),
         offset-inside (getD (j .faces) i none .font),
-        every-at (λ (f : Face). Fits32 (length (f .font))) none (omega arith) (j .faces) fits i,
+        every-at (λ (f : Face). Fits32 (length (f .font))) none (omega arith) (j .faces) (font-lengths (j .faces) (fits .faces .1)) i,
       )
 
-  made-small : (o : Offer) (made : Synthesis) (index : CharmapIndex) → Small index → Small (withSynthesis o made index .«charmap_index»)
-  unfolding withSynthesis withoutOffer
-  made-small o made index h = go (eqb (made .refusal) 29)
+  request-writable : (j : Job) → JobFits j → (k n : ℕ) → Writable (requestAnswer j k n)
+  unfolding requestAnswer requestOfJob
+  request-writable j fits k n = go (ltb k (length (j .requests))) refl
     where
-      go : (b : Bool) → Small (cond b (withoutOffer 29) (record { result = 0; offer = o; synthesis = made; «charmap_index» = index }) .«charmap_index»)
-      go true = omega arith
-      go false = h
+      r : Request
+      r = requestOfJob j k
 
-  index-fits : (k n : ℕ) → Small (answerCall s k n .«charmap_index»)
-  unfolding answerCall jobAnswer requestAnswer answered withoutOffer faceOfOffer
-  index-fits k n = go (readJob s) refl
+      go : (b : Bool) → ltb k (length (j .requests)) ≡ b
+          → Writable (cond b (answered (viewOf j) r (offerAt (offersOf (viewOf j) r) n)) (withoutOffer 28))
+      go true t =
+          answered-writable (viewOf j) r (font-small j fits)
+          (request-accepted (j .requests) (fits .requests .1) _ k (ltb-true k (length (j .requests)) t))
+          (offerAt (offersOf (viewOf j) r) n)
+      go false t = none-writable 28
+
+  pub answer-writable : (k n : ℕ) {a : Answer} → a ≡ answerCall s k n → Writable a
+  unfolding answerCall jobAnswer
+  answer-writable k n is = rw is (go (readJob s) refl)
     where
-      last : (view : View) → ((i : ℕ) → Small (view .font i .«charmap_index»)) → (r : Request) (a : Offered) → Small (answered view r a .«charmap_index»)
-      last view f r (At o) = made-small o (synthesisOfOffer view r o) (faceOfOffer view o .«charmap_index») (f (getD (membersOf view (o .family)) (o .place) 0))
-      last view f r Past = omega arith
-
-      there : (b : Bool) (a : Answer) → Small (a .«charmap_index») → Small (cond b a (withoutOffer 28) .«charmap_index»)
-      there true a h = h
-      there false a h = omega arith
-
-      go : (g : Got Job) → readJob s ≡ g → Small (jobAnswer g k n .«charmap_index»)
-      go (refused w p) e = omega arith
-      go (got j p) e =
-          there (ltb k (length (j .requests))) (answered (viewOf j) (requestOfJob j k) (offerAt (offersOf (viewOf j) (requestOfJob j k)) n))
-          (last (viewOf j) (font-small j p e) (requestOfJob j k) (offerAt (offersOf (viewOf j) (requestOfJob j k)) n))
-
-  pub index-below : (k n : ℕ) {a : Answer} → a ≡ answerCall s k n → Small (a .«charmap_index»)
-  index-below k n is = rw is (index-fits k n)
+      go : (g : Got Job) → readJob s ≡ g → Writable (jobAnswer g k n)
+      go (refused w p) e = none-writable (number w)
+      go (got j p) e = request-writable j (accepted-is-a-layout s bytes j p e .fits) k n
 
 -- ---- the call
 

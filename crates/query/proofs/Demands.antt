@@ -1,43 +1,134 @@
--- Demands 1 and 3 over a job hold.
-use Prim.Native.Nat.{ℕ}
-use mathlib.Core.Path.{_≡_, refl, _∙_}
-use mathlib.Core.List.{List}
+-- Demands 1 and 3 hold over the bytes of every job.
+use Prim.Native.Nat.{ℕ, zero, suc, _≤_}
+use mathlib.Core.Path.{_≡_, refl, sym, ap, _∙_}
+use mathlib.Core.Bool.{Bool, true, false}
+use mathlib.Core.List.{List, [], _∷_, _++_, map}
 use native.Mathlib.Omega.{arith}
-use lib.ListN.{length}
-use borrow.Author.Tests.{ne-eqb}
-use Rattle.query.specs.Sizes.{recordSize}
-use Rattle.query.specs.Job.{Job, checkJob}
-use Rattle.query.specs.Layout.{Bytes, layout, JobFits}
-use Rattle.query.specs.Call.{withoutOffer, written, unwritten, offerCall}
-use Rattle.query.specs.Demands.{Other, Demands}
-use Rattle.query.proofs.AcceptedJobs.{layout-is-accepted, every-other-refused}
-use Rattle.query.proofs.AnswerCases.{job-refused, call-written}
+use lib.ListN.{length, getD, length-map}
+use borrow.Author.Tests.{ne-eqb, lt-ltb}
+use Rattle.font.specs.declared.attributes.Attributes.{Attributes}
+use Rattle.font.specs.Attributes.{defaultAttributes}
+use Rattle.matching.specs.Order.{choice, Demand}
+use Rattle.matching.specs.Matching.{familyOf, requestOf}
+use Rattle.matching.proofs.Demand.{demand}
+use Rattle.matching.proofs.Matched.{bounded, weights-short}
+use Rattle.query.specs.declared.job.Checked.{Checked}
+use Rattle.query.specs.Sizes.{recordSize, mostBytes, mostPlaces}
+use Rattle.query.specs.Reader.{Refusal, number, Got, refused, got}
+use Rattle.query.specs.Entries.{Family}
+use Rattle.query.specs.Job.{Job, readJob, answer, checkJob}
+use Rattle.query.specs.Layout.{Bytes, layout, Every, FamilyFits, JobFits}
+use Rattle.query.specs.View.{viewOf}
+use Rattle.query.specs.Offers.{membersOf, facesOf}
+use Rattle.query.specs.Call.{withoutOffer, requestOfJob, written, unwritten, offerCall}
+use Rattle.query.specs.Demands.{Kept, Other, Chooses, familyAt, Demands}
+use Rattle.query.proofs.AcceptedJobs.{number-row, accepted-is-a-layout, layout-is-accepted}
+use Rattle.query.proofs.FirstMet.{refusal-stays, first-met}
+use Rattle.query.proofs.AnswerCases.{job-refused, no-request, call-written}
 use Rattle.query.proofs.CursorSteps.{each-number, each-call, cursor-run}
 
--- a refused job leaves the output as it is
+-- a refusal leaves the output as it is
 left : (n : ℕ) (out : List ℕ) → (n ≡ 0 → ⊥) → written (withoutOffer n) out ≡ unwritten n out
 unfolding written withoutOffer
 left n out h = rw (ne-eqb n 0 h)
 
-untouched : (s : List ℕ) → (checkJob s .refusal ≡ 0 → ⊥) → (k n : ℕ) (out : List ℕ) → length out ≡ recordSize → offerCall s k n out ≡ unwritten (checkJob s .refusal) out
-untouched s h k n out long = call-written s k n out long (job-refused s k n (checkJob s .refusal) refl h) ∙ left (checkJob s .refusal) out h
+-- ---- a job that keeps the layout and the limits
 
-others : (s : List ℕ) → Bytes s → (((job : Job) × (s ≡ layout job) × JobFits job) → ⊥) → Other s
-others s b h =
-    let row = every-other-refused s b h in
-    record { refusal = row; untouched = untouched s (λ z. omega (arith, row, z)) }
+module _ (s : List ℕ) (job : Job) (is : s ≡ layout job) (fits : JobFits job) where
+  read : readJob s ≡ got job (length s)
+  read = ap readJob is ∙ layout-is-accepted job fits ∙ ap (λ (z : List ℕ). got job (length z)) (sym is)
 
-pub demands : Demands
-demands =
+  checked : checkJob s ≡ record { refusal = 0; position = 0 }
+  unfolding checkJob answer
+  checked = ap answer read
+
+  outside : (k n : ℕ) → length (job .requests) ≤ k → (out : List ℕ) → length out ≡ recordSize → offerCall s k n out ≡ unwritten 28 out
+  outside k n h out long =
+      call-written s k n out long (sym (no-request s k n job (length s) read h)) ∙ left 28 out (λ z. omega (arith, z))
+
+  keeps : Kept s job
+  keeps =
+      record {
+        end = read;
+        check = checked;
+        offers = λ k n there out long. each-call s k job (length s) read there n out long;
+        outside = outside;
+      }
+
+-- ---- every other
+
+module _ (s : List ℕ) where
+  untouched : (w : Refusal) (p : ℕ) → checkJob s ≡ record { refusal = number w; position = p } → (k n : ℕ) (out : List ℕ) → length out ≡ recordSize
+      → offerCall s k n out ≡ unwritten (number w) out
+  untouched w p e k n out long =
+      let h : number w ≡ 0 → ⊥ = λ z. omega (arith, number-row w .0, z) in
+      call-written s k n out long (job-refused s k n (number w) (sym (ap (λ (c : Checked). c .refusal) e)) h) ∙ left (number w) out h
+
+  stays : (w : Refusal) (p : ℕ) → checkJob s ≡ record { refusal = number w; position = p } → (u : List ℕ) → length (s ++ u) ≤ mostBytes → (number w ≡ 18 → ⊥)
+      → checkJob (s ++ u) ≡ checkJob s
+  stays w p e u l h =
+      let same : checkJob s .refusal ≡ number w = ap (λ (c : Checked). c .refusal) e in
+      refusal-stays s u l (λ z. omega (arith, number-row w .0, same, z)) (λ z. h (sym same ∙ z))
+
+  other : (w : Refusal) (p : ℕ) → readJob s ≡ refused w p → Other s
+  unfolding checkJob answer
+  other w p e =
+      record {
+        why = w;
+        position = p;
+        read = e;
+        first = first-met s w p e;
+        stays = stays w p (ap answer e);
+        check = ap answer e;
+        untouched = untouched w p (ap answer e);
+      }
+
+  others : Bytes s → (((job : Job) × (s ≡ layout job) × JobFits job) → ⊥) → Other s
+  others b h = go (readJob s) refl
+    where
+      go : (g : Got Job) → readJob s ≡ g → Other s
+      go (refused w p) e = other w p e
+      go (got job q) e = let l = accepted-is-a-layout s b job q e in absurd (h (job, l .bytes, l .fits))
+
+-- ---- the choice in a family of a job
+
+-- at most 64 places
+few-places : (n : ℕ) (fs : List Family) → Every (FamilyFits n) fs → (f : ℕ) → length (getD (map (λ (m : Family). m .members) fs) f []) ≤ mostPlaces
+unfolding Every
+few-places n [] w f = omega arith
+few-places n (m ∷ ms) w zero = w .0 .few
+few-places n (m ∷ ms) w (suc f) = few-places n ms (w .1) f
+
+module _ (job : Job) (fits : JobFits job) (f : ℕ) where
+  few-faces : length (facesOf (viewOf job) f) ≤ 64
+  unfolding facesOf membersOf viewOf
+  few-faces =
+      omega (arith, length-map (membersOf (viewOf job) f) (viewOf job .font), few-places (length (job .faces)) (job .families) (fits .families .1) f)
+
+  chooses : (a : Attributes) (on : Bool) → Chooses (familyAt job f) (requestOf a on)
+  unfolding choice familyOf
+  chooses a on =
+      let faces = facesOf (viewOf job) f in
+      record {
+        many = λ two. demand (familyAt job f) (requestOf a on) (bounded faces (length faces) few-faces) two (weights-short faces (length faces));
+        few = λ h. rw (lt-ltb (length faces) 2 h) refl;
+      }
+
+-- ---- the demands
+
+pub demands : (s : List ℕ) → Bytes s → Demands s
+unfolding offerCall unwritten
+demands s b =
     record {
-      kept =
-          λ job fits.
-          record {
-            end = layout-is-accepted job fits;
-            offers = λ k n there out long. each-call (layout job) k job (length (layout job)) (layout-is-accepted job fits) there n out long;
-          };
-      other = others;
+      kept = keeps s;
+      other = others s b;
+      buffer = λ k n out h. rw (ne-eqb (length out) recordSize h) refl;
       offered =
-          λ s b job end k read there.
-          record { each = each-number s k job end read there; steps = cursor-run s k job end read there b };
+          λ job is fits k there.
+          record {
+            chosen = λ f l. chooses job fits f (requestOfJob job k .attributes) true;
+            default = λ f l. chooses job fits f defaultAttributes false;
+            each = each-number s k job (length s) (read s job is fits) there;
+            steps = cursor-run s k job (length s) (read s job is fits) there b;
+          };
     }

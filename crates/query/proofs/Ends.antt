@@ -117,6 +117,10 @@ ends {A} {B} r f s p {a} = go (r s p)
     go (refused w x) e = e
     go (got v x) e = e
 
+-- of readers by cases, that of the case that was met
+pub met : {K : Type 0} {A : K → Type 0} (r : (k : K) → Reader (A k)) (s : List ℕ) (p : ℕ) {k m : K} → k ≡ m → ended (r m s p) ≡ ended (r k s p)
+met {K} r s p e = ap (λ (k : K). ended (r k s p)) (sym e)
+
 -- ---- entries of one kind
 
 pub many-none : {A : Type 0} (r : Reader A) (s : List ℕ) (p : ℕ) → record { refusal = 0; at = p } ≡ ended (many 0 r s p)

@@ -7,7 +7,7 @@ use mathlib.Core.List.{List, [], _∷_}
 use native.Mathlib.Omega.{arith}
 use lib.ListN.{length, getD}
 use lib.Seq.{getD-drop}
-use lib.Dec.{T, leb, ltb, eqb}
+use lib.Dec.{T, leb}
 use lib.Ieee.{Float, nan, inf, fin, binary32, isNan, ofBits, toBits, fits}
 use lib.Ieee.Scale.{finite}
 use lib.Ieee.Bits.{ofBits-toBits, ofBits-fits, toBits-ofBits}
@@ -18,8 +18,8 @@ use Rattle.font.proofs.Fields.{in16, out16, in32, out32}
 use Rattle.query.specs.Reader.{Refusal, overLimit, notHeld, noFace, unknown, badNumber, got, Reader, onward, field, tested}
 use Rattle.query.specs.Fields.{byte, half, word, single, ratio, value, count, heldByte, faceNumber, mask, kind, spareByte, spareWord}
 use Rattle.query.specs.Layout.{Bytes, bytes8, bytes16, bytes32, bytesOf, Fits8, Fits16, Fits32, IsNumber, IsRatio, IsValue}
-use Rattle.query.proofs.Ends.{Read}
-use Rattle.query.proofs.Leaves.{byteAt, singleAt, byte-read, half-read, word-read, ratio-read, value-read, count-read, held-read, face-number-read, mask-read, kind-read, spare-byte-read, spare-word-read}
+use Rattle.query.proofs.Ends.{Read, tested-read}
+use Rattle.query.proofs.Leaves.{byteAt, singleAt, byte-read, half-read, word-read, ratio-read, value-read}
 use Rattle.font.proofs.FiniteBits.{ratio-finite}
 use Rattle.query.proofs.Stands.{Stands, join, split, inside, one}
 
@@ -198,65 +198,56 @@ exact-value = record {
       tested-is badNumber finite 4 singleAt s p a q (t .in-job) (single-there a (v .single) t) (t .ends) (v .accepted);
 }
 
+-- a number of k bytes, as it is read and as it stands
+record Laid (k : ℕ) (v : List ℕ → ℕ → ℕ) (bytes : ℕ → List ℕ) : Type 0 where
+  stands-as : (s : List ℕ) → Bytes s → (p : ℕ) → p + k ≤ length s → Stands s p (bytes (v s p)) (p + k)
+  there-as : (s : List ℕ) (p n q : ℕ) → Stands s p (bytes n) q → There s p n (v s p) k q
+
+laid8 : Laid 1 byteAt bytes8
+laid8 = record { stands-as = λ s B p l. stands8 s p l; there-as = λ s p n q h. there8 n h }
+
+laid16 : Laid 2 u16At bytes16
+laid16 = record { stands-as = stands16; there-as = λ s p n q h. there16 n h }
+
+laid32 : Laid 4 u32At bytes32
+laid32 = record { stands-as = stands32; there-as = λ s p n q h. there32 n h }
+
+-- a number that passes its test exactly when it is within the limits
+exact-tested : {k : ℕ} {v : List ℕ → ℕ → ℕ} {bytes : ℕ → List ℕ} → Laid k v bytes → (why : Refusal) (ok : ℕ → Bool) (W : ℕ → Type 0)
+    → ((s : List ℕ) → Bytes s → (p : ℕ) → ok (v s p) ≡ true → W (v s p)) → ((n : ℕ) → W n → ok n ≡ true) → Exact (tested why ok (field k v)) bytes W
+exact-tested {k} {v} laid why ok W limits passes = record {
+  sound = λ s B p a q e. let r = tested-read why ok k v s p a q e in
+      record {
+        stands = rw (r .value, r .next) (laid .stands-as s B p (r .inside));
+        within = rw (r .value) (limits s B p (rw (r .value) at (r .passed)));
+      };
+  complete = λ s p a q w h. let t = laid .there-as s p a q h in tested-is why ok k v s p a q (t .in-job) (t .is) (t .ends) (passes a w);
+}
+
 pub exact-count : (limit : ℕ) → Exact (count limit) bytes16 (λ n. n ≤ limit)
 unfolding count half
-exact-count limit = record {
-  sound = λ s B p a q e. let r = count-read limit s p a q e in
-      record { stands = rw (r .value, r .next) (stands16 s B p (r .inside)); within = leb-true a limit (r .passed) };
-  complete = λ s p a q v h. let t = there16 a h in
-      tested-is overLimit (λ n. leb n limit) 2 u16At s p a q (t .in-job) (t .is) (t .ends) (le-leb a limit v);
-}
+exact-count limit = exact-tested laid16 overLimit _ _ (λ s B p e. leb-true _ limit e) (λ n w. le-leb n limit w)
 
 pub exact-held : Exact heldByte bytes8 (λ n. n ≤ 1)
 unfolding heldByte byte
-exact-held = record {
-  sound = λ s B p a q e. let r = held-read s p a q e in
-      record { stands = rw (r .value, r .next) (stands8 s p (r .inside)); within = leb-true a 1 (r .passed) };
-  complete = λ s p a q v h. let t = there8 a h in
-      tested-is notHeld (λ n. leb n 1) 1 byteAt s p a q (t .in-job) (t .is) (t .ends) (le-leb a 1 v);
-}
+exact-held = exact-tested laid8 notHeld _ _ (λ s B p e. leb-true _ 1 e) (λ n w. le-leb n 1 w)
 
 pub exact-face-number : (n : ℕ) → Exact (faceNumber n) bytes16 (λ i. (i < n) × Fits16 i)
 unfolding faceNumber half
-exact-face-number n = record {
-  sound = λ s B p a q e. let r = face-number-read n s p a q e in
-      record { stands = rw (r .value, r .next) (stands16 s B p (r .inside)); within = (ltb-true a n (r .passed), rw (r .value) (u16-small s B p)) };
-  complete = λ s p a q v h. let t = there16 a h in
-      tested-is noFace (λ i. ltb i n) 2 u16At s p a q (t .in-job) (t .is) (t .ends) (lt-ltb a n (v .0));
-}
+exact-face-number n = exact-tested laid16 noFace _ _ (λ s B p e. (ltb-true _ n e, u16-small s B p)) (λ i w. lt-ltb i n (w .0))
 
 pub exact-mask : Exact mask bytes8 (λ n. n ≤ 7)
 unfolding mask byte
-exact-mask = record {
-  sound = λ s B p a q e. let r = mask-read s p a q e in
-      record { stands = rw (r .value, r .next) (stands8 s p (r .inside)); within = leb-true a 7 (r .passed) };
-  complete = λ s p a q v h. let t = there8 a h in
-      tested-is unknown (λ n. leb n 7) 1 byteAt s p a q (t .in-job) (t .is) (t .ends) (le-leb a 7 v);
-}
+exact-mask = exact-tested laid8 unknown _ _ (λ s B p e. leb-true _ 7 e) (λ n w. le-leb n 7 w)
 
 pub exact-kind : Exact kind bytes8 (λ n. n ≤ 3)
 unfolding kind byte
-exact-kind = record {
-  sound = λ s B p a q e. let r = kind-read s p a q e in
-      record { stands = rw (r .value, r .next) (stands8 s p (r .inside)); within = leb-true a 3 (r .passed) };
-  complete = λ s p a q v h. let t = there8 a h in
-      tested-is unknown (λ n. leb n 3) 1 byteAt s p a q (t .in-job) (t .is) (t .ends) (le-leb a 3 v);
-}
+exact-kind = exact-tested laid8 unknown _ _ (λ s B p e. leb-true _ 3 e) (λ n w. le-leb n 3 w)
 
 pub exact-spare-byte : Exact spareByte bytes8 (λ n. n ≡ 0)
 unfolding spareByte byte
-exact-spare-byte = record {
-  sound = λ s B p a q e. let r = spare-byte-read s p a q e in
-      record { stands = rw (r .value, r .next) (stands8 s p (r .inside)); within = eqb-true a 0 (r .passed) };
-  complete = λ s p a q v h. let t = there8 a h in
-      tested-is unknown (λ n. eqb n 0) 1 byteAt s p a q (t .in-job) (t .is) (t .ends) (eq-eqb a 0 v);
-}
+exact-spare-byte = exact-tested laid8 unknown _ _ (λ s B p e. eqb-true _ 0 e) (λ n w. eq-eqb n 0 w)
 
 pub exact-spare-word : Exact spareWord bytes32 (λ n. n ≡ 0)
 unfolding spareWord word
-exact-spare-word = record {
-  sound = λ s B p a q e. let r = spare-word-read s p a q e in
-      record { stands = rw (r .value, r .next) (stands32 s B p (r .inside)); within = eqb-true a 0 (r .passed) };
-  complete = λ s p a q v h. let t = there32 a h in
-      tested-is unknown (λ n. eqb n 0) 4 u32At s p a q (t .in-job) (t .is) (t .ends) (eq-eqb a 0 v);
-}
+exact-spare-word = exact-tested laid32 unknown _ _ (λ s B p e. eqb-true _ 0 e) (λ n w. eq-eqb n 0 w)

@@ -63,12 +63,6 @@ module _ {A : Type 0} (r : Reader A) (e : A → List ℕ) (W : A → Type 0) (x 
       then-is r _ s p a _ (x .complete s p a _ (w .0) (d .first))
       (then-is (many (length xs) r) _ s _ xs q (many-complete xs s _ q (w .1) (d .second)) refl)
 
-  pub exact-many : (n : ℕ) → Exact (many n r) (each e) (λ xs. (length xs ≡ n) × Every W xs)
-  exact-many n = record {
-    sound = many-sound n;
-    complete = λ s p xs q w h. rw (← w .0) (many-complete xs s p q (w .1) h);
-  }
-
   pub exact-counted : (limit : ℕ) → Exact (counted limit r) (after16 e) (λ xs. (length xs ≤ limit) × Every W xs)
   unfolding counted after16
   exact-counted limit = record {

@@ -1,12 +1,10 @@
 -- How a font's field ends: 18 where its length or its bytes reach past the end, then the font layer's refusal, always at the length field.
 use Prim.Native.Nat.{ℕ, _+_, _-_, _≤_, _<_}
-use mathlib.Core.Path.{_≡_, refl, sym}
-use mathlib.Core.Bool.{Bool, true, false, cond}
+use mathlib.Core.Path.{_≡_, sym}
 use mathlib.Core.List.{List}
 use native.Mathlib.Omega.{arith}
 use native.Mathlib.Nat.{add-sub-cancel-left}
 use lib.ListN.{length, take, drop}
-use lib.Dec.{leb}
 use borrow.Author.Tests.{le-leb, lt-leb, ne-eqb}
 use Rattle.font.specs.Tables.{u32At}
 use Rattle.font.specs.Font.{fontRefusal}

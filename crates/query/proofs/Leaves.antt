@@ -1,6 +1,6 @@
 -- What is known of each field that was read: its value, the next position, that it lies in the job, and that it passed its test.
 use Prim.Native.Nat.{ℕ, _+_, _-_, _≤_, _<_}
-use mathlib.Core.Path.{_≡_, refl, sym, ap, _∙_}
+use mathlib.Core.Path.{_≡_, sym, ap, _∙_}
 use mathlib.Core.Bool.{Bool, true, false, cond}
 use mathlib.Core.List.{List}
 use native.Mathlib.Omega.{arith}
@@ -11,14 +11,17 @@ use lib.Ieee.Scale.{finite}
 use Rattle.font.specs.Single.{acceptedRatio}
 use Rattle.font.specs.Tables.{u16At, u32At}
 use Rattle.query.specs.declared.fields.At.{At}
-use Rattle.query.specs.Reader.{Reader, Got, refused, overLimit, notHeld, noFace, unknown, badNumber, got, done, _>>=_, many, ended}
+use Rattle.query.specs.Reader.{Reader, overLimit, notHeld, noFace, unknown, badNumber, got, done, _>>=_, many, ended}
 use Rattle.query.specs.Fields.{byte, half, word, single, ratio, value, count, counted, heldByte, faceNumber, mask, kind, spareByte, spareWord, orSpare}
 use Rattle.query.specs.declared.sections.Section.{Section}
 use Rattle.query.specs.declared.sections.Section.the-variants.{Faces, Overrides, Families, Requests}
 use Rattle.query.specs.Sizes.{mostPlaces}
-use Rattle.query.specs.Entries.{readFace, readOverride, readFamily, readRequest}
+use Rattle.query.specs.Entries.{readFace, readPair, readOverride, readFamily, readRequest}
+use Rattle.query.specs.declared.entries.Item.{Item}
+use Rattle.query.specs.declared.entries.Item.the-variants as Item'
+use Rattle.query.specs.Items.{Value, readItem, sizeOf}
 use Rattle.query.specs.Sections.{Entry, readEntry}
-use Rattle.query.proofs.Ends.{number-nonzero, Read, field-read, tested-read, ends, then-got, got-there, many-length, many-goes}
+use Rattle.query.proofs.Ends.{Read, field-read, tested-read, ends, then-got, got-there, many-length, many-goes, same-got}
 
 abbrev pub byteAt : List ℕ → ℕ → ℕ
 byteAt s p = getD s p 0
@@ -61,20 +64,6 @@ pub face-number-read : (n : ℕ) (s : List ℕ) (p a q : ℕ) → faceNumber n s
 unfolding faceNumber half
 face-number-read n s p a q e = tested-read noFace (λ i. ltb i n) 2 u16At s p a q e
 
--- where a face number that is not refused ends
-pub face-number-ends : (n : ℕ) (s : List ℕ) (p : ℕ) {a : At} → a ≡ ended (faceNumber n s p) → a .refusal ≡ 0 → (a .at ≡ p + 2) × (p + 2 ≤ length s)
-unfolding ended
-face-number-ends n s p {a} = go (faceNumber n s p) refl
-  where
-    go : (g : Got ℕ) → faceNumber n s p ≡ g → a ≡ ended g → a .refusal ≡ 0 → (a .at ≡ p + 2) × (p + 2 ≤ length s)
-    go (refused w q) read e z = absurd (number-nonzero w (sym (ap (λ (x : At). x .refusal) e) ∙ z))
-    go (got i q) read e z = let r = face-number-read n s p i q read in (ap (λ (x : At). x .at) e ∙ r .next, r .inside)
-
-pub face-number-goes : (n k : ℕ) (s : List ℕ) (p : ℕ) {a : At} → 0 < k → a ≡ ended (faceNumber n s p) → a .refusal ≡ 0
-    → ended (many (k - 1) (faceNumber n) s (p + 2)) ≡ ended (many k (faceNumber n) s p)
-face-number-goes n k s p l read z =
-    ap (λ (q : ℕ). ended (many (k - 1) (faceNumber n) s q)) (sym (face-number-ends n s p read z .0)) ∙ many-goes (faceNumber n) k s p l read z
-
 pub mask-read : (s : List ℕ) (p a q : ℕ) → mask s p ≡ got a q → Read 1 byteAt (λ m. leb m 7) s p a q
 unfolding mask byte
 mask-read s p a q e = tested-read unknown (λ m. leb m 7) 1 byteAt s p a q e
@@ -90,6 +79,28 @@ spare-byte-read s p a q e = tested-read unknown (λ b. eqb b 0) 1 byteAt s p a q
 pub spare-word-read : (s : List ℕ) (p a q : ℕ) → spareWord s p ≡ got a q → Read 4 u32At (λ b. eqb b 0) s p a q
 unfolding spareWord word
 spare-word-read s p a q e = tested-read unknown (λ b. eqb b 0) 4 u32At s p a q e
+
+-- an item of a run has its size, in the job
+item-read : (item : Item) (s : List ℕ) (p : ℕ) (a : Value item) (q : ℕ) → readItem item s p ≡ got a q → (q ≡ p + sizeOf item) × (p + sizeOf item ≤ length s)
+unfolding readPair done
+item-read Item'.Pair s p a q e =
+    let h = then-got word _ s p a q e in
+    let g = then-got value _ s (h .1) a q (h .3) in
+    let tag = word-read s p (h .0) (h .1) (h .2) in
+    let x = value-read s (h .1) (g .0) (g .1) (g .2) in
+    let end = same-got (g .3) .1 in
+    (omega (arith, tag .next, x .next), omega (arith, tag .next, x .inside))
+item-read (Item'.FaceNumber n) s p a q e = let r = face-number-read n s p a q e in (r .next, r .inside)
+
+pub item-ends : (item : Item) (s : List ℕ) (p : ℕ) {a : At} → a ≡ ended (readItem item s p) → a .refusal ≡ 0
+    → (a .at ≡ p + sizeOf item) × (p + sizeOf item ≤ length s)
+item-ends item s p e z = let r = got-there e z in item-read item s p (r .0) _ (r .1)
+
+-- the others follow it
+pub item-goes : (item : Item) (k : ℕ) (s : List ℕ) (p : ℕ) {a : At} → 0 < k → a ≡ ended (readItem item s p) → a .refusal ≡ 0
+    → ended (many (k - 1) (readItem item) s (p + sizeOf item)) ≡ ended (many k (readItem item) s p)
+item-goes item k s p l read z =
+    ap (λ (q : ℕ). ended (many (k - 1) (readItem item) s q)) (sym (item-ends item s p read z .0)) ∙ many-goes (readItem item) k s p l read z
 
 -- how a number that may be spare ends
 pub or-spare-ends : {A B : Type 0} {a : At} (b c : Bool) (none : B) (r : Reader A) (f : A → B) (s : List ℕ) (p : ℕ)

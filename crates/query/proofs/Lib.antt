@@ -5,7 +5,6 @@ pub mod Leaves
 pub mod Halves
 pub mod Fonts
 pub mod Checks
-pub mod Stays
 pub mod NotedEntries
 pub mod Counted
 pub mod WalkCases
@@ -16,6 +15,7 @@ pub mod ExactLists
 pub mod ExactEntries
 pub mod AcceptedJobs
 -- First met, reading left to right.
+pub mod Readings
 pub mod FirstMet
 pub mod Examples
 -- The offers' bytes.

@@ -103,11 +103,6 @@ kept-count false o f = refl
 pub one-count : (o : Override) (i : ℕ) (f : FontInfo) → afterOne o i f .«axis_count» ≡ f .«axis_count»
 one-count o i f = kept-count (eqb (o .face) i) o f
 
-pub after-count : (os : List Override) (i : ℕ) (f : FontInfo) → afterOverrides os i f .«axis_count» ≡ f .«axis_count»
-unfolding afterOverrides
-after-count [] i f = refl
-after-count (o ∷ os) i f = after-count os i (afterOne o i f) ∙ one-count o i f
-
 -- a face has an axis if one with that tag is among the first 16
 among : (f : FontInfo) (tag : ℕ) → hasAxis f tag ≡ ltb (firstAxis (f .axes) (min (f .«axis_count») 16) tag) (min (f .«axis_count») 16)
 unfolding hasAxis axisPlace axisAt axisCount firstAxis axisOf

@@ -1,5 +1,5 @@
 -- The two's complement of a signed number of 8 bits, as the code works it out: 256 more where it is below zero, in 16 bits.
-use Prim.Native.Nat.{suc, _+_, _-_, _<_}
+use Prim.Native.Nat.{suc, _-_, _<_}
 use mathlib.Core.Path.{_≡_, refl, sym, _∙_, ap, subst}
 use mathlib.Core.Bool.{true, false, cond}
 use native.Mathlib.Omega.{arith}

@@ -1,11 +1,11 @@
 -- That bytes stand in a job from one position to another, and how such parts are joined and split.
-use Prim.Native.Nat.{ℕ, _+_, _≤_, _<_}
+use Prim.Native.Nat.{ℕ, _+_, _≤_}
 use mathlib.Core.Path.{_≡_, refl, sym, ap, _∙_}
 use mathlib.Core.List.{List, [], _∷_, _++_, append-assoc}
 use native.Mathlib.Omega.{arith}
 use native.Mathlib.Numerals.{add-one}
-use lib.ListN.{length, getD, drop, length-append, length-drop, List·getD-append}
-use lib.Seq.{drop-cons, drop-drop, drop-append-seam, getD-drop}
+use lib.ListN.{length, getD, drop, length-append, length-drop}
+use lib.Seq.{drop-cons, drop-drop, drop-append-seam}
 
 -- x stands in s from p to q
 pub record Stands (s : List ℕ) (p : ℕ) (x : List ℕ) (q : ℕ) : Type 0 where

@@ -1,16 +1,25 @@
--- Demands 1 and 3 over a job, as statements about the definitions that the contracts cite. Proved in proofs/Demands.antt.
+-- Demands 1 and 3 over the bytes of a job, as statements about the definitions that the contracts cite. The calls on a job promise them of the bytes that they are
+-- given; proved in proofs/Demands.antt.
 use Prim.Native.Nat.{ℕ, _-_, _≤_, _<_}
 use mathlib.Core.Path.{_≡_}
+use mathlib.Core.Bool.{true, false, cond}
 use mathlib.Core.List.{List, _++_, map}
+use lib.Dec.{eqb}
 use lib.ListN.{length, take, replicate}
+use Rattle.font.specs.Attributes.{defaultAttributes}
+use Rattle.matching.specs.declared.order.Request.{Request}
+use Rattle.matching.specs.Order as Order
+use Rattle.matching.specs.Order.{choice, Demand}
+use Rattle.matching.specs.Matching.{familyOf, requestOf}
 use Rattle.query.specs.declared.answer.Offer.{Offer}
 use Rattle.query.specs.declared.answer.Answer.{Answer}
-use Rattle.query.specs.Sizes.{recordSize}
-use Rattle.query.specs.Reader.{got}
+use Rattle.query.specs.declared.job.Checked.{Checked}
+use Rattle.query.specs.Sizes.{recordSize, mostBytes}
+use Rattle.query.specs.Reader.{Refusal, number, refused, got}
 use Rattle.query.specs.Job.{Job, readJob, checkJob}
-use Rattle.query.specs.Layout.{Bytes, layout, JobFits}
+use Rattle.query.specs.Layout.{layout, JobFits}
 use Rattle.query.specs.View.{viewOf}
-use Rattle.query.specs.Offers.{pick, offersOf, faceOfOffer, synthesisOfOffer}
+use Rattle.query.specs.Offers.{pick, facesOf, offersOf, faceOfOffer, synthesisOfOffer}
 use Rattle.query.specs.Record.{recordBytes}
 use Rattle.query.specs.Call.{Called, withoutOffer, requestOfJob, answerCall, unwritten, offerCall}
 use Rattle.query.specs.Cursor.{fresh, run}
@@ -35,24 +44,57 @@ module _ (job : Job) (k : ℕ) where
   offerBytes o =
       record { result = 0; output = recordBytes o (synthesisOfOffer (viewOf job) (requestOfJob job k) o) (faceOfOffer (viewOf job) o .«charmap_index») }
 
--- "Every job that keeps document 01's layout and limits is read to its end and each request in it gets its offers."
-pub record Kept (job : Job) : Type 0 where
-  pub end : readJob (layout job) ≡ got job (length (layout job))
+-- ---- demand 1
+
+-- "Every job that keeps document 01's layout and limits is read to its end and each request in it gets its offers." A number outside the job is 28.
+pub record Kept (s : List ℕ) (job : Job) : Type 0 where
+  pub end : readJob s ≡ got job (length s)
+  pub check : checkJob s ≡ record { refusal = 0; position = 0 }
   pub offers : (k n : ℕ) → k < length (job .requests) → (out : List ℕ) → length out ≡ recordSize
-      → offerCall (layout job) k n out ≡ pick (offerBytes job k) (λ i. unwritten 1 out) (listed job k) n
+      → offerCall s k n out ≡ pick (offerBytes job k) (λ i. unwritten 1 out) (listed job k) n
+  pub outside : (k n : ℕ) → length (job .requests) ≤ k → (out : List ℕ) → length out ≡ recordSize → offerCall s k n out ≡ unwritten 28 out
 
--- "Every other job .. gets the refusal of 01's table, with the output buffer untouched."
+-- "First met, reading left to right": what the check call answers for the bytes before the field at p, whose row is w. All that they lack is that field, which is
+-- 18 there; before bytes left, 27, they are a job. 17 is of no field: its position is 0, before which there are no bytes.
+abbrev pub cutBefore : Refusal → ℕ → Checked
+cutBefore w p = cond (eqb (number w) 27) (record { refusal = 0; position = 0 }) (record { refusal = 18; position = p })
+
+-- "Every other job .. gets the refusal of 01's table, with the output buffer untouched": the row of the field first met, and that field's position. Which row a
+-- field has is said where it is read (Fields, Entries). The bytes before the field, and, but for 18, those after it, change nothing of it.
 pub record Other (s : List ℕ) : Type 0 where
-  pub refusal : (17 ≤ checkJob s .refusal) × (checkJob s .refusal ≤ 27)
-  pub untouched : (k n : ℕ) (out : List ℕ) → length out ≡ recordSize → offerCall s k n out ≡ unwritten (checkJob s .refusal) out
+  pub why : Refusal
+  pub position : ℕ
+  pub read : readJob s ≡ refused why position
+  pub first : checkJob (take position s) ≡ cutBefore why position
+  pub stays : (u : List ℕ) → length (s ++ u) ≤ mostBytes → (number why ≡ 18 → ⊥) → checkJob (s ++ u) ≡ checkJob s
+  pub check : checkJob s ≡ record { refusal = number why; position = position }
+  pub untouched : (k n : ℕ) (out : List ℕ) → length out ≡ recordSize → offerCall s k n out ≡ unwritten (number why) out
 
--- "An offer call that 01 does not refuse answers the offer of the number asked for, with its synthesis, or, exactly where the list has no such offer,
--- that it lies past the list. .. a fresh cursor stepped any number of times .. gives the same offers, each with its synthesis, in order, then "past the list" each time."
+-- ---- demand 3
+
+-- "Whatever the request and the family of two or more faces .. a chosen face is one of the family and stands before every other face of it .. Of such a family no
+-- face is chosen exactly when ..", as `Demand` says it. "No face for an empty family; place 0 for one face": in an empty family there is no place 0.
+pub record Chooses (family : Order.Family) (request : Request) : Type 0 where
+  pub many : 2 ≤ family .count → Demand family request (choice family request)
+  pub few : family .count < 2 → choice family request ≡ 0
+
+-- a family of the job, as the order looks at it
+abbrev pub familyAt : Job → ℕ → Order.Family
+familyAt job f = familyOf (facesOf (viewOf job) f) (length (facesOf (viewOf job) f))
+
+-- The choice, in each family of the job and so in each that the request names, and the same of its default. "An offer call that 01 does not refuse answers the
+-- offer of the number asked for, with its synthesis, or, exactly where the list has no such offer, that it lies past the list. .. a fresh cursor stepped any number
+-- of times .. gives the same offers, each with its synthesis, in order, then "past the list" each time."
 pub record Offered (s : List ℕ) (job : Job) (k : ℕ) : Type 0 where
+  pub chosen : (f : ℕ) → f < length (job .families) → Chooses (familyAt job f) (requestOf (requestOfJob job k .attributes) true)
+  pub default : (f : ℕ) → f < length (job .families) → Chooses (familyAt job f) (requestOf defaultAttributes false)
   pub each : (n : ℕ) → answerCall s k n ≡ pick (offered job k) (λ i. withoutOffer 1) (listed job k) n
   pub steps : (n : ℕ) → run s n (fresh k) ≡ map (offered job k) (take n (listed job k)) ++ replicate (n - length (listed job k)) (withoutOffer 1)
 
-pub record Demands : Type 0 where
-  pub kept : (job : Job) → JobFits job → Kept job
-  pub other : (s : List ℕ) → Bytes s → (((job : Job) × (s ≡ layout job) × JobFits job) → ⊥) → Other s
-  pub offered : (s : List ℕ) → Bytes s → (job : Job) (end k : ℕ) → readJob s ≡ got job end → k < length (job .requests) → Offered s job k
+-- ---- both, over the bytes of a job: those of a layout within the limits, and all others; an output that is not 40 bytes is 16 over any
+
+pub record Demands (s : List ℕ) : Type 0 where
+  pub kept : (job : Job) → s ≡ layout job → JobFits job → Kept s job
+  pub other : (((job : Job) × (s ≡ layout job) × JobFits job) → ⊥) → Other s
+  pub buffer : (k n : ℕ) (out : List ℕ) → (length out ≡ recordSize → ⊥) → offerCall s k n out ≡ unwritten 16 out
+  pub offered : (job : Job) → s ≡ layout job → JobFits job → (k : ℕ) → k < length (job .requests) → Offered s job k

@@ -12,6 +12,7 @@ pub mod Call
 pub mod Cursor
 pub mod Demands
 -- How the steps of a call hand on what they found: nothing here is a promise to a user.
+pub mod Items
 pub mod Sections
 pub mod Positions
 pub mod Values

@@ -8,6 +8,7 @@ ghost use Rattle.query.specs.Sizes.{fewFaces};
 ghost use Rattle.query.specs.CallTables.{Room, TablesOf};
 ghost use Rattle.query.specs.Listed.{SectionIn, Names, answerAt, Readable, Locates, SearchAnswer, LeadsTo};
 ghost use Rattle.query.specs.Call.{withoutOffer, withSynthesis, answerCall, offerCall, Calls};
+ghost use Rattle.query.specs.Demands.{Demands};
 use crate::answer::Answer;
 use crate::answer::Offer;
 use crate::faces;
@@ -200,6 +201,7 @@ pub fn offer_at(job: &[u8], request: u32, number: u32) -> Answer
 // The offer of a number of a request: 0 and the 40 bytes, 1 past the list, or a refusal.
 pub fn offer(job: &[u8], request: u32, number: u32, out: &mut [u8]) -> u32
     ensures { λ r. ⌜ Calls (offerCall (now (job .entry)) request number (now (out .entry))) r (now (out .exit)) ⌝ }
+    ensures { λ _. ⌜ Demands (now (job .entry)) ⌝ }
 {
     if out.len() != sizes::RECORD {
         return 16;

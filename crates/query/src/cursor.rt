@@ -1,6 +1,7 @@
 // The offer cursor, which each step consumes and returns.
 ghost use mathlib.Core.Path.{_≡_};
 ghost use Rattle.query.specs.Cursor.{fresh, after, stepped};
+ghost use Rattle.query.specs.Demands.{Demands};
 use crate::answer::Answer;
 use crate::call;
 
@@ -39,6 +40,7 @@ impl Cursor {
     // The answer to the cursor's numbers.
     pub fn step(mut self, job: &[u8]) -> Step
         ensures { λ r. ⌜ r ≡ stepped (now (job .entry)) self ⌝ }
+        ensures { λ _. ⌜ Demands (now (job .entry)) ⌝ }
     {
         let answer = call::offer_at(job, self.request, self.next);
         self = self.after(answer.result == 0);

@@ -2,7 +2,8 @@
 ghost use mathlib.Core.Path.{_≡_};
 ghost use mathlib.Core.Bool.{cond};
 ghost use Rattle.query.specs.Reader.{ended, many};
-ghost use Rattle.query.specs.Fields.{half, ratio, value, spareWord, byteCounted, faceNumber};
+ghost use Rattle.query.specs.Fields.{half, ratio, value, spareWord, byteCounted};
+ghost use Rattle.query.specs.Items.{readItem, sizeOf};
 ghost use Rattle.query.specs.Entries.{readFace, readStyle, styleOrSpare, readGiven, readPair, readOverride, readFamily, readRequested, readRequest};
 use crate::fields;
 use crate::fields::At;
@@ -41,7 +42,7 @@ fn value_or_spare(job: &[u8], at: usize, given: bool) -> At
 }
 
 // Kind and angle.
-pub(crate) fn style(job: &[u8], at: usize) -> At
+fn style(job: &[u8], at: usize) -> At
     ensures { λ r. ⌜ r ≡ ended (readStyle (now (job .entry)) at) ⌝ }
 {
     let kind = fields::kind(job, at);
@@ -65,7 +66,7 @@ fn style_or_spare(job: &[u8], at: usize, given: bool) -> At
 }
 
 // Ratio, style and weight of an override, by its mask.
-pub(crate) fn given(job: &[u8], at: usize, mask: u8) -> At
+fn given(job: &[u8], at: usize, mask: u8) -> At
     ensures { λ r. ⌜ r ≡ ended (readGiven mask (now (job .entry)) at) ⌝ }
 {
     let width = ratio_or_spare(job, at, mask % 2 == 1);
@@ -90,17 +91,43 @@ fn pair(job: &[u8], at: usize) -> At
     fields::value(job, tag.at)
 }
 
-fn pair_run(job: &[u8], at: usize, count: usize) -> At
-    ensures { λ r. ⌜ r ≡ ended (many count readPair (now (job .entry)) at) ⌝ }
+// What a run has several of. Face numbers are told how many faces the job has.
+enum Item {
+    Pair,
+    FaceNumber(u16),
+}
+
+fn size(item: Item) -> usize
+    ensures { λ r. ⌜ r ≡ sizeOf item ⌝ }
 {
+    match item {
+        Item::Pair => sizes::PAIR,
+        Item::FaceNumber(_) => 2,
+    }
+}
+
+fn one(job: &[u8], at: usize, item: Item) -> At
+    ensures { λ r. ⌜ r ≡ ended (readItem item (now (job .entry)) at) ⌝ }
+{
+    match item {
+        Item::Pair => pair(job, at),
+        Item::FaceNumber(faces) => fields::face_number(job, at, faces),
+    }
+}
+
+// `count` items, one after another. The place goes on by itself, and does not wait for what was read.
+fn run(job: &[u8], at: usize, count: usize, item: Item) -> At
+    ensures { λ r. ⌜ r ≡ ended (many count (readItem item) (now (job .entry)) at) ⌝ }
+{
+    let step = size(item);
     let mut place = at;
     let mut left = count;
     while 0 < left {
-        let next = pair(job, place);
+        let next = one(job, place, item);
         if next.refusal != 0 {
             return next;
         }
-        place = next.at;
+        place += step;
         left -= 1;
     }
     At {
@@ -110,14 +137,14 @@ fn pair_run(job: &[u8], at: usize, count: usize) -> At
 }
 
 // Axis pair count and pairs.
-pub(crate) fn pairs(job: &[u8], at: usize) -> At
+fn pairs(job: &[u8], at: usize) -> At
     ensures { λ r. ⌜ r ≡ ended (byteCounted readPair (now (job .entry)) at) ⌝ }
 {
     let count = fields::byte(job, at);
     if count.refusal != 0 {
         return count;
     }
-    pair_run(job, count.at, fields::byte_at(job, at) as usize)
+    run(job, count.at, fields::byte_at(job, at) as usize, Item::Pair)
 }
 
 // An override, in a job of `faces` faces.
@@ -139,26 +166,6 @@ pub(crate) fn override_entry(job: &[u8], at: usize, faces: u16) -> At
     pairs(job, given.at)
 }
 
-// The place goes on by itself, and does not wait for the number that was read.
-fn face_number_run(job: &[u8], at: usize, count: usize, faces: u16) -> At
-    ensures { λ r. ⌜ r ≡ ended (many count (faceNumber faces) (now (job .entry)) at) ⌝ }
-{
-    let mut place = at;
-    let mut left = count;
-    while 0 < left {
-        let next = fields::face_number(job, place, faces);
-        if next.refusal != 0 {
-            return next;
-        }
-        place += 2;
-        left -= 1;
-    }
-    At {
-        refusal: 0,
-        at: place,
-    }
-}
-
 // A family, in a job of `faces` faces.
 pub(crate) fn family(job: &[u8], at: usize, faces: u16) -> At
     ensures { λ r. ⌜ r ≡ ended (readFamily faces (now (job .entry)) at) ⌝ }
@@ -167,11 +174,16 @@ pub(crate) fn family(job: &[u8], at: usize, faces: u16) -> At
     if count.refusal != 0 {
         return count;
     }
-    face_number_run(job, count.at, tables::u16_at(job, at) as usize, faces)
+    run(
+        job,
+        count.at,
+        tables::u16_at(job, at) as usize,
+        Item::FaceNumber(faces),
+    )
 }
 
 // A byte count and 16-bit numbers.
-pub(crate) fn numbers(job: &[u8], at: usize) -> At
+fn numbers(job: &[u8], at: usize) -> At
     ensures { λ r. ⌜ r ≡ ended (byteCounted half (now (job .entry)) at) ⌝ }
 {
     let count = fields::byte(job, at);
@@ -182,7 +194,7 @@ pub(crate) fn numbers(job: &[u8], at: usize) -> At
 }
 
 // Ratio, style and weight of a request.
-pub(crate) fn requested(job: &[u8], at: usize) -> At
+fn requested(job: &[u8], at: usize) -> At
     ensures { λ r. ⌜ r ≡ ended (readRequested (now (job .entry)) at) ⌝ }
 {
     let width = fields::ratio(job, at);

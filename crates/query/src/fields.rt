@@ -13,7 +13,7 @@ use font::single;
 use font::tables;
 
 // How reading ended: a refusal and its field's position, or 0 and the next position.
-pub struct At {
+pub(crate) struct At {
     pub refusal: u8,
     pub at: usize,
 }

@@ -4,6 +4,7 @@ ghost use Prim.Native.Nat.{_≤_};
 ghost use lib.ListN.{length};
 ghost use Rattle.query.specs.Sizes.{mostBytes};
 ghost use Rattle.query.specs.Job.{checkJob};
+ghost use Rattle.query.specs.Demands.{Demands};
 ghost use Rattle.query.specs.Positions.{endOf, Requested, SectionsAnswer, WalkAnswer};
 use crate::fields::At;
 use crate::fields::wide;
@@ -118,6 +119,7 @@ pub(crate) fn walk(job: &[u8], families: &mut [u32], asked: usize) -> Walked
 // The first refusal of a job, reading left to right, with its field's position.
 pub fn check(job: &[u8]) -> Checked
     ensures { λ r. ⌜ r ≡ checkJob (now (job .entry)) ⌝ }
+    ensures { λ _. ⌜ Demands (now (job .entry)) ⌝ }
 {
     let mut families = [0u32; 0];
     let walked = walk(job, &mut families, 0);

@@ -17,19 +17,19 @@ use matching::order::Request;
 use matching::rows::Row;
 
 // The place of a family's offer, or how far past the family's offers the number lies.
-pub enum FamilyOffer {
+enum FamilyOffer {
     Place(u16),
     Left(usize),
 }
 
 // An offer of a list of families, or how far past their offers the number lies.
-pub enum ListOffer {
+enum ListOffer {
     At(Offer),
     Left(usize),
 }
 
 // An offer of a request, or past its list.
-pub enum Offered {
+pub(crate) enum Offered {
     At(Offer),
     Past,
 }

@@ -1,11 +1,13 @@
 // The 40 bytes of an offer.
 ghost use mathlib.Core.Path.{_≡_};
+ghost use mathlib.Core.Bool.{true, false};
 ghost use mathlib.Core.List.{[], _∷_, _++_};
 ghost use Prim.Native.Nat.{_+_, _^_, _≤_, _<_};
+ghost use lib.Ieee.{isNan};
 ghost use lib.ListN.{length, take};
 ghost use Rattle.query.specs.Sizes.{recordSize};
 ghost use Rattle.query.specs.Layout.{bytes16, bytes32};
-ghost use Rattle.query.specs.Record.{flag, twosComplement, valueBits, headBytes, slotBytes, indexBytes, recordBytes};
+ghost use Rattle.query.specs.Record.{flag, twosComplement, headBytes, slotBytes, indexBytes, Numbers, recordBytes};
 use crate::answer::Offer;
 use font::charmap::CharmapIndex;
 use matching::synthesis::Synthesis;
@@ -50,16 +52,6 @@ fn twos_complement(x: i8) -> u8
     }
 }
 
-// The bits of a value, or 0 for a NaN.
-fn value_bits(x: f32) -> u32
-    ensures { λ r. ⌜ r ≡ valueBits x ⌝ }
-{
-    if x != x {
-        return 0;
-    }
-    f32::to_bits(x)
-}
-
 // The offer's family and place, emboldening, skew, and how many settings follow.
 fn put_head(out: &mut [u8], offer: Offer, embolden: bool, skew: i8, count: u8)
     requires { ⌜ length (now out) ≡ recordSize ⌝ }
@@ -75,12 +67,12 @@ fn put_head(out: &mut [u8], offer: Offer, embolden: bool, skew: i8, count: u8)
 
 // A setting's tag and value, or zeros.
 fn put_slot(out: &mut [u8], at: usize, used: bool, tag: u32, value: f32)
-    requires { ⌜ at + 8 ≤ length (now out) ⌝ }
+    requires { ⌜ (at + 8 ≤ length (now out)) × (used ≡ true → isNan value ≡ false) ⌝ }
     ensures { λ _. ⌜ take (at + 8) (now (out .exit)) ≡ take at (now (out .entry)) ++ slotBytes used tag value ⌝ }
 {
     if used {
         put_word(&mut *out, at, tag);
-        put_word(&mut *out, at + 4, value_bits(value));
+        put_word(&mut *out, at + 4, f32::to_bits(value));
     } else {
         put_word(&mut *out, at, 0);
         put_word(&mut *out, at + 4, 0);
@@ -100,7 +92,7 @@ fn put_index(out: &mut [u8], index: CharmapIndex)
 
 // The record of an offer. A slot past the count of settings is zero.
 pub(crate) fn write_record(out: &mut [u8], offer: Offer, synthesis: Synthesis, index: CharmapIndex)
-    requires { ⌜ (length (now out) ≡ recordSize) × (index .«subtable_offset» < 2 ^ 32) ⌝ }
+    requires { ⌜ (length (now out) ≡ recordSize) × (index .«subtable_offset» < 2 ^ 32) × Numbers synthesis ⌝ }
     ensures { λ _. ⌜ now (out .exit) ≡ recordBytes offer synthesis index ⌝ }
 {
     let count = synthesis.len;

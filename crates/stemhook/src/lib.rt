@@ -3,6 +3,7 @@ ghost use mathlib.Core.Path.{_≡_};
 ghost use Prim.Native.Nat.{_+_, _*_};
 ghost use Rattle.query.specs.Job.{checkJob};
 ghost use Rattle.query.specs.Call.{offerCall, Calls};
+ghost use Rattle.query.specs.Demands.{Demands};
 use query::call;
 use query::job;
 
@@ -11,6 +12,7 @@ use query::job;
 #[no_mangle]
 pub extern "C" fn stemhook_check(job: &[u8]) -> u64
     ensures { λ r. ⌜ r ≡ checkJob (now (job .entry)) .position * 256 + checkJob (now (job .entry)) .refusal ⌝ }
+    ensures { λ _. ⌜ Demands (now (job .entry)) ⌝ }
 {
     let checked = job::check(job);
     (checked.position as u64) * 256 + checked.refusal as u64
@@ -21,6 +23,7 @@ pub extern "C" fn stemhook_check(job: &[u8]) -> u64
 #[no_mangle]
 pub extern "C" fn stemhook_offer(job: &[u8], request: u32, offer: u32, out: &mut [u8]) -> u32
     ensures { λ r. ⌜ Calls (offerCall (now (job .entry)) request offer (now (out .entry))) r (now (out .exit)) ⌝ }
+    ensures { λ _. ⌜ Demands (now (job .entry)) ⌝ }
 {
     call::offer(job, request, offer, out)
 }

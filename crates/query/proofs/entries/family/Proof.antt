@@ -19,15 +19,15 @@ returns c = ends _ _ _ _ (stops _ _ _ _ (c .before .before .count .ensures) (c .
 u16-at-requires : tie.Need-u16-at-requires
 u16-at-requires c κs = search needs
 
-cast-face-number-run : tie.Need-cast-face-number-run
-cast-face-number-run c = search needs
+cast-run : tie.Need-cast-run
+cast-run c = search needs
 
-face-number-run-requires : tie.Need-face-number-run-requires
-face-number-run-requires c κs = search needs
+run-requires : tie.Need-run-requires
+run-requires c κs = search needs
 
 returns-2 : tie.Need-returns-2
 unfolding readFamily counted
-returns-2 c = ends _ _ _ _ (goes _ _ _ _ (c .before .before .before .before .count .ensures) (c .before .before .if1 .left) (λ n e. rw (count-read _ _ _ _ _ e .value ∙ sym (c .before .u16-at .ensures)) (c .face-number-run .ensures)))
+returns-2 c = ends _ _ _ _ (goes _ _ _ _ (c .before .before .before .before .count .ensures) (c .before .before .if1 .left) (λ n e. rw (count-read _ _ _ _ _ e .value ∙ sym (c .before .u16-at .ensures)) (c .run .ensures)))
 
 pub family-spec : {M : Type 1} → statement M
 family-spec =
@@ -36,6 +36,6 @@ family-spec =
     count-requires
     returns
     u16-at-requires
-    cast-face-number-run
-    face-number-run-requires
+    cast-run
+    run-requires
     returns-2)

@@ -18,17 +18,17 @@ returns c = stops _ _ _ _ (c .before .before .byte .ensures) (c .if1 .taken)
 byte-at-requires : tie.Need-byte-at-requires
 byte-at-requires c κs = search needs
 
-cast-pair-run : tie.Need-cast-pair-run
-cast-pair-run c = search needs
+cast-run : tie.Need-cast-run
+cast-run c = search needs
 
-pair-run-requires : tie.Need-pair-run-requires
-pair-run-requires c κs = search needs
+run-requires : tie.Need-run-requires
+run-requires c κs = search needs
 
 returns-2 : tie.Need-returns-2
 unfolding byteCounted
-returns-2 c = goes _ _ _ _ (c .before .before .before .before .byte .ensures) (c .before .before .if1 .left) (λ n e. rw (byte-read _ _ _ _ e .value ∙ sym (c .before .byte-at .ensures)) (c .pair-run .ensures))
+returns-2 c = goes _ _ _ _ (c .before .before .before .before .byte .ensures) (c .before .before .if1 .left) (λ n e. rw (byte-read _ _ _ _ e .value ∙ sym (c .before .byte-at .ensures)) (c .run .ensures))
 
 pub pairs-spec : {M : Type 1} → statement M
 pairs-spec =
     tie.close
-    (tie.spec byte-requires returns byte-at-requires cast-pair-run pair-run-requires returns-2)
+    (tie.spec byte-requires returns byte-at-requires cast-run run-requires returns-2)

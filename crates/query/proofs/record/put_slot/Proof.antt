@@ -1,10 +1,11 @@
 -- `query::record::put_slot` meets its contract: one field after the other. Assumes nothing.
 use Prim.Native.Nat.{_+_}
-use mathlib.Core.Path.{refl, ap}
+use mathlib.Core.Path.{refl, sym, subst}
+use mathlib.Core.Bool.{not}
 use native.Mathlib.Omega.{arith}
+use lib.Dec.{T}
 use lib.ListN.{take}
 use denote.Ref.{now}
-use Rattle.query.specs.Layout.{bytes32}
 use Rattle.query.specs.Record.{slotBytes}
 use Rattle.query.proofs.Written.{then-put}
 use borrow.Author.Needs.{needs}
@@ -17,8 +18,10 @@ put-word-requires c κs = search needs
 add-put-word : tie.Need-add-put-word
 add-put-word c = search needs
 
-value-bits-requires : tie.Need-value-bits-requires
-value-bits-requires c κs = search needs
+float-to-bits-put-word : tie.Need-float-to-bits-put-word
+float-to-bits-put-word c =
+    let start = c .before .before .before .before .before .before .before in
+    subst (λ b. T (not b)) (sym (start .pre .1 (c .before .before .before .before .before .if1 .taken))) tt
 
 put-word-requires-2 : tie.Need-put-word-requires-2
 put-word-requires-2 c κs = search needs
@@ -38,10 +41,11 @@ same-length c = search needs
 returns : tie.Need-returns
 unfolding slotBytes
 returns c =
-    let at = c .before .before .before .before .before .before .before .before .before .before .before .args .at in
-    rw (c .before .before .before .before .before .before .before .before .before .if1 .taken)
-    (then-put (take at (now (c .before .before .before .before .before .before .before .before .before .before .before .args .out))) _ _ _ _ _ (at + 4) (at + 4 + 4) (at + 8) (omega arith)
-    (c .before .before .before .before .before .before .before .put-word .ensures) (c .before .before .put-word2 .ensures) (ap bytes32 (c .before .before .before .value-bits .ensures)))
+    let start = c .before .before .before .before .before .before .before .before .before .before in
+    let at = start .args .at in
+    rw (c .before .before .before .before .before .before .before .before .if1 .taken)
+    (then-put (take at (now (start .args .out))) _ _ _ _ _ (at + 4) (at + 4 + 4) (at + 8) (omega arith)
+    (c .before .before .before .before .before .before .put-word .ensures) (c .before .before .put-word2 .ensures) refl)
 
 same-length-2 : tie.Need-same-length-2
 same-length-2 c = search needs
@@ -60,7 +64,7 @@ put-slot-spec =
     (tie.spec
     put-word-requires
     add-put-word
-    value-bits-requires
+    float-to-bits-put-word
     put-word-requires-2
     put-word-requires-3
     add-put-word-2

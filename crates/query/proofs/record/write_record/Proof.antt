@@ -6,6 +6,7 @@ use mathlib.Core.Path.{refl, sym, _∙_, ap}
 use mathlib.Core.List.{append-assoc}
 use native.Mathlib.Omega.{arith}
 use lib.ListN.{length}
+use borrow.Author.Tests.{ltb-true}
 use lib.Seq.{take-all}
 use Rattle.query.specs.Sizes.{recordSize}
 use Rattle.query.specs.Record.{headBytes, slotAt, recordBytes}
@@ -24,7 +25,7 @@ array-read-put-slot-2 : tie.Need-array-read-put-slot-2
 array-read-put-slot-2 c = search needs
 
 put-slot-requires : tie.Need-put-slot-requires
-put-slot-requires c κs = search needs
+put-slot-requires c κs = (search needs, λ e. c .before .before .before .before .before .before .before .before .before .pre .2 0 (ltb-true 0 _ e))
 
 array-read-put-slot-3 : tie.Need-array-read-put-slot-3
 array-read-put-slot-3 c = search needs
@@ -33,7 +34,7 @@ array-read-put-slot-4 : tie.Need-array-read-put-slot-4
 array-read-put-slot-4 c = search needs
 
 put-slot-requires-2 : tie.Need-put-slot-requires-2
-put-slot-requires-2 c κs = search needs
+put-slot-requires-2 c κs = (search needs, λ e. c .before .before .before .before .before .before .before .before .before .before .before .before .before .pre .2 1 (ltb-true 1 _ e))
 
 array-read-put-slot-5 : tie.Need-array-read-put-slot-5
 array-read-put-slot-5 c = search needs
@@ -42,7 +43,7 @@ array-read-put-slot-6 : tie.Need-array-read-put-slot-6
 array-read-put-slot-6 c = search needs
 
 put-slot-requires-3 : tie.Need-put-slot-requires-3
-put-slot-requires-3 c κs = search needs
+put-slot-requires-3 c κs = (search needs, λ e. c .before .before .before .before .before .before .before .before .before .before .before .before .before .before .before .before .before .pre .2 2 (ltb-true 2 _ e))
 
 put-index-requires : tie.Need-put-index-requires
 put-index-requires c κs = search needs

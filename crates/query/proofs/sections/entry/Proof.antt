@@ -1,18 +1,11 @@
 -- `query::sections::entry` meets its contract.
 -- Assumes nothing.
-use Prim.Native.Nat.{ℕ}
-use mathlib.Core.Path.{_≡_, sym, ap, _∙_}
-use mathlib.Core.List.{List}
-use Rattle.query.specs.declared.sections.Section.{Section}
-use Rattle.query.specs.Reader.{ended}
+use mathlib.Core.Path.{_∙_}
 use Rattle.query.specs.Sections.{readEntry}
+use Rattle.query.proofs.Ends.{met}
 use borrow.Author.Needs.{needs}
 use Rattle.query.proofs.sections.entry.Statement.{statement}
 use Rattle.query.proofs.sections.entry.Tie as tie
-
--- the section that was matched
-same : {section matched : Section} (s : List ℕ) (p : ℕ) → section ≡ matched → ended (readEntry matched s p) ≡ ended (readEntry section s p)
-same s p e = ap (λ (k : Section). ended (readEntry k s p)) (sym e)
 
 enum-told : tie.Need-enum-told
 enum-told c = search needs
@@ -39,16 +32,16 @@ request-requires : tie.Need-request-requires
 request-requires c κs = search needs
 
 returns : tie.Need-returns
-returns c = c .face .ensures ∙ same _ _ (c .before .enum-told .given .1)
+returns c = c .face .ensures ∙ met readEntry _ _ (c .before .enum-told .given .1)
 
 returns-2 : tie.Need-returns-2
-returns-2 c = c .override-entry .ensures ∙ same _ _ (c .before .before .section .given .1)
+returns-2 c = c .override-entry .ensures ∙ met readEntry _ _ (c .before .before .section .given .1)
 
 returns-3 : tie.Need-returns-3
-returns-3 c = c .family .ensures ∙ same _ _ (c .before .before .section2 .given .1)
+returns-3 c = c .family .ensures ∙ met readEntry _ _ (c .before .before .section2 .given .1)
 
 returns-4 : tie.Need-returns-4
-returns-4 c = c .request .ensures ∙ same _ _ (c .before .enum-told2 .given .1)
+returns-4 c = c .request .ensures ∙ met readEntry _ _ (c .before .enum-told2 .given .1)
 
 pub entry-spec : {M : Type 1} → statement M
 entry-spec =
