@@ -144,9 +144,16 @@ fn faces_at(s: &[u8], start: usize, count: u8) -> Faces
 
 // Printing.
 
+// A byte, and then a number.
+fn print_number(before: u8, n: usize) {
+    let lead = [before];
+    io::write_all(STDOUT_FILENO, &lead);
+    io::print_decimal(STDOUT_FILENO, n as u64);
+}
+
 fn print_refused(refusal: u8) {
     io::write_all(STDOUT_FILENO, b"refused");
-    words::print_number(b' ', refusal as u64);
+    print_number(b' ', refusal as usize);
 }
 
 fn print_choice(choice: Choice) {
@@ -167,19 +174,19 @@ fn print_places(places: [usize; 64], count: usize) {
         io::write_all(STDOUT_FILENO, b" -");
         return;
     }
-    words::print_number(b' ', places[0] as u64);
+    print_number(b' ', places[0]);
     let mut i: usize = 1;
     while i < 64 {
         if count <= i {
             return;
         }
-        words::print_number(b',', places[i] as u64);
+        print_number(b',', places[i]);
         i += 1;
     }
 }
 
 fn print_synthesis(synthesis: Synthesis) {
-    words::print_embolden(synthesis.embolden);
+    io::write_all(STDOUT_FILENO, &words::embolden_word(synthesis.embolden));
     words::print_skew(synthesis.skew);
     words::print_settings(synthesis);
 }
@@ -188,7 +195,7 @@ fn print_line(choice: Choice, list: Places, default: usize, synthesis: Synthesis
     let places = list.places;
     print_choice(choice);
     print_places(places, list.count);
-    words::print_number(b' ', default as u64);
+    print_number(b' ', default);
     print_synthesis(synthesis);
 }
 

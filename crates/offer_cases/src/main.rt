@@ -15,7 +15,7 @@ fn print_case(list: &[u8]) -> usize
 {
     let end = 4 + tables::u32_at(list, 0) as usize;
     if end <= list.len() {
-        lines::print_indexed_job(&list[4..end]);
+        lines::print_job(&list[4..end], true);
     }
     end
 }

@@ -9,6 +9,6 @@ fn main() {
     if 65536 < n {
         io::write_all(STDOUT_FILENO, b"too long\n");
     } else {
-        lines::print_job(&space[..n]);
+        lines::print_job(&space[..n], false);
     }
 }

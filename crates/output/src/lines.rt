@@ -1,4 +1,6 @@
 // The lines of a job, written to standard output.
+ghost use mathlib.Core.Path.{_≡_};
+ghost use Rattle.query.specs.Job.{checkJob};
 use crate::words;
 use font::charmap::CharmapIndex;
 use libc::STDOUT_FILENO;
@@ -6,12 +8,19 @@ use query::answer::Answer;
 use query::call;
 use query::cursor::Cursor;
 use query::job;
+use query::job::Checked;
 
 // The most requests that a job has.
 const MOST_REQUESTS: u32 = 256;
 
 // One more than the most offers that a request can ask for.
 const PAST_MOST: u32 = 65536;
+
+// A blank, and then a number.
+fn print_number(n: u64) {
+    io::write_all(STDOUT_FILENO, b" ");
+    io::print_decimal(STDOUT_FILENO, n);
+}
 
 fn print_flag(on: bool) {
     if on {
@@ -23,7 +32,7 @@ fn print_flag(on: bool) {
 
 // The charmap index: the offset, and whether it is a symbol or a Mac Roman record.
 fn print_index(index: CharmapIndex) {
-    words::print_number(b' ', index.subtable_offset as u64);
+    print_number(index.subtable_offset as u64);
     print_flag(index.is_symbol);
     print_flag(index.is_mac_roman);
 }
@@ -33,9 +42,9 @@ fn print_offer(request: u32, answer: Answer, indexed: bool) {
     let offer = answer.offer;
     let synthesis = answer.synthesis;
     io::print_decimal(STDOUT_FILENO, request as u64);
-    words::print_number(b' ', offer.family as u64);
-    words::print_number(b' ', offer.place as u64);
-    words::print_embolden(synthesis.embolden);
+    print_number(offer.family as u64);
+    print_number(offer.place as u64);
+    io::write_all(STDOUT_FILENO, &words::embolden_word(synthesis.embolden));
     words::print_skew(synthesis.skew);
     if indexed {
         print_index(answer.charmap_index);
@@ -85,28 +94,23 @@ fn print_requests(job: &[u8], count: u32, indexed: bool) {
     }
 }
 
-fn print_lines(job: &[u8], indexed: bool) {
+// Prints what section 7's program prints for a job, and where `indexed` the charmap index of each offer after its skew.
+// Answers what the check call does.
+pub fn print_job(job: &[u8], indexed: bool) -> Checked
+    ensures { λ r. ⌜ r ≡ checkJob (now (job .entry)) ⌝ }
+{
     let checked = job::check(job);
     if checked.refusal == 0 {
         let count = request_count(job);
         io::write_all(STDOUT_FILENO, b"requests");
-        words::print_number(b' ', count as u64);
+        print_number(count as u64);
         io::write_all(STDOUT_FILENO, b"\n");
         print_requests(job, count, indexed);
     } else {
         io::write_all(STDOUT_FILENO, b"refused");
-        words::print_number(b' ', checked.refusal as u64);
-        words::print_number(b' ', checked.position as u64);
+        print_number(checked.refusal as u64);
+        print_number(checked.position as u64);
         io::write_all(STDOUT_FILENO, b"\n");
     }
-}
-
-// What section 7's program prints for a job.
-pub fn print_job(job: &[u8]) {
-    print_lines(job, false);
-}
-
-// The same, with the charmap index of each offer after the skew.
-pub fn print_indexed_job(job: &[u8]) {
-    print_lines(job, true);
+    checked
 }

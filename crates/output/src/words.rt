@@ -1,31 +1,41 @@
-// The words of a line: numbers, and a synthesis.
+// The words of a synthesis. No contract can say what is printed: a call that prints answers a number of what it printed.
+ghost use mathlib.Core.Path.{_≡_};
+ghost use Prim.Native.Nat.{min};
+ghost use lib.IntN.{natAbs};
+ghost use Rattle.output.specs.Words.{emboldenWord};
 use libc::STDOUT_FILENO;
 use matching::synthesis::Synthesis;
 
-// A byte, and then a number.
-pub fn print_number(before: u8, n: u64) {
-    let lead = [before];
-    io::write_all(STDOUT_FILENO, &lead);
-    io::print_decimal(STDOUT_FILENO, n);
+// The word of emboldening.
+pub fn embolden_word(on: bool) -> [u8; 2]
+    ensures { λ r. ⌜ r ≡ emboldenWord «on» ⌝ }
+{
+    if on { [b' ', b'b'] } else { [b' ', b'-'] }
 }
 
-pub fn print_embolden(on: bool) {
-    if on {
-        io::write_all(STDOUT_FILENO, b" b");
-    } else {
-        io::write_all(STDOUT_FILENO, b" -");
-    }
-}
-
-pub fn print_skew(skew: i8) {
+fn magnitude(skew: i8) -> u64
+    ensures { λ r. ⌜ r ≡ natAbs skew ⌝ }
+{
     if skew < 0 {
         // One less than the magnitude, which fits for -128 too.
         let less = -1 - skew;
-        io::write_all(STDOUT_FILENO, b" -");
-        io::print_decimal(STDOUT_FILENO, less as u64 + 1);
-    } else {
-        print_number(b' ', skew as u64);
+        return less as u64 + 1;
     }
+    skew as u64
+}
+
+// Prints a skew, and answers its magnitude.
+pub fn print_skew(skew: i8) -> u64
+    ensures { λ r. ⌜ r ≡ natAbs skew ⌝ }
+{
+    let size = magnitude(skew);
+    if skew < 0 {
+        io::write_all(STDOUT_FILENO, b" -");
+    } else {
+        io::write_all(STDOUT_FILENO, b" ");
+    }
+    io::print_decimal(STDOUT_FILENO, size);
+    size
 }
 
 // The bits of a value. No setting is a NaN, for which 0 would be printed.
@@ -50,15 +60,19 @@ fn print_setting(tag: u32, value: f32) {
     io::print_hex(STDOUT_FILENO, value_bits(value) as u64, 8);
 }
 
-pub fn print_settings(synthesis: Synthesis) {
+// Prints the settings, and answers how many there are.
+pub fn print_settings(synthesis: Synthesis) -> u8
+    ensures { λ r. ⌜ r ≡ min (synthesis .len) 3 ⌝ }
+{
     let tags = synthesis.tags;
     let values = synthesis.values;
     let mut i: u8 = 0;
     while i < 3 {
         if synthesis.len <= i {
-            return;
+            return i;
         }
         print_setting(tags[i as usize], values[i as usize]);
         i += 1;
     }
+    3
 }

@@ -3,8 +3,6 @@ ghost use Prim.Native.Nat.{_<_, _≤_};
 use crate::put;
 use font::tables;
 use libc::STDOUT_FILENO;
-use query::call;
-use query::job;
 
 // A byte, and then a number.
 fn print_number(before: u8, n: u64) {
@@ -30,15 +28,15 @@ fn sum_of(job: &[u8]) -> u32 {
     sum
 }
 
-// The job's length and sum, and the answer of the check call.
+// The job's length and sum, and the answer of the exported check call: refusal and position.
 pub fn check(name: &[u8], job: &[u8]) {
-    let checked = job::check(job);
+    let checked = stemhook::stemhook_check(job);
     io::write_all(STDOUT_FILENO, name);
     io::write_all(STDOUT_FILENO, b":");
     print_number(b' ', job.len() as u64);
     print_number(b' ', sum_of(job) as u64);
-    print_number(b' ', checked.refusal as u64);
-    print_number(b' ', checked.position as u64);
+    print_number(b' ', checked % 256);
+    print_number(b' ', checked / 256);
     io::write_all(STDOUT_FILENO, b"\n");
 }
 
@@ -82,12 +80,12 @@ fn print_kept(kept: bool) {
     }
 }
 
-// The offer call with the first `size` bytes of 48 as its output.
+// The exported offer call with the first `size` bytes of 48 as its output.
 pub fn call(job: &[u8], request: u32, number: u32, size: usize)
     requires { ⌜ size ≤ 48 ⌝ }
 {
     let mut out = marked();
-    let result = call::offer(job, request, number, &mut out[0..size]);
+    let result = stemhook::stemhook_offer(job, request, number, &mut out[0..size]);
     print_number(b' ', request as u64);
     print_number(b' ', number as u64);
     print_number(b' ', size as u64);

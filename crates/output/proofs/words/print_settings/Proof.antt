@@ -1,11 +1,11 @@
--- `output::words::print_settings` is safe and ends: nothing has to hold from turn to turn, and the measure is what is left of 3. Assumes nothing.
-use Prim.Native.Nat.{_-_}
+-- `output::words::print_settings` answers how many settings there are: the turns are no more than those, and the measure is what is left of 3.
+use Prim.Native.Nat.{_-_, _≤_}
 use borrow.Author.Needs.{needs}
 use Rattle.output.proofs.words.print_settings.Statement.{statement}
 use Rattle.output.proofs.words.print_settings.Tie as tie
 
 abbrev Inv-loop : tie.InvT-loop
-Inv-loop synthesis tags values i₀ i = Unit {0}
+Inv-loop synthesis tags values i₀ i = i ≤ synthesis .len
 
 abbrev μ-loop : tie.MeasureT-loop
 μ-loop synthesis tags values i₀ i = 3 - i
