@@ -1,13 +1,13 @@
 -- An absent table and an unreadable field are never taken for data: each reading that is right for fields that lie whole in the bytes gives the attributes, the
 -- charmap index and the face that the definitions give (`FieldReadings.antt`), whatever it gives for other fields. Assumes nothing.
 use Prim.Native.Nat.{ℕ, _+_, _*_, _≤_, _<_}
-use mathlib.Core.Path.{_≡_, refl, ap, _∙_}
+use mathlib.Core.Path.{_≡_, refl, ap}
 use mathlib.Core.Bool.{Bool, true, false, _&&_, cond}
 use mathlib.Core.List.{List, []}
 use native.Mathlib.Omega.{arith}
-use lib.ListN.{length, length-take, length-drop}
+use lib.ListN.{length}
 use lib.Dec.{leb, ltb, eqb}
-use borrow.Author.Tests.{leb-true, leb-false, le-leb, lt-ltb, le-ltb, ltb-true}
+use borrow.Author.Tests.{leb-true, le-leb, lt-ltb, le-ltb, ltb-true}
 use Rattle.font.specs.declared.tables.Table.{Table}
 use Rattle.font.specs.declared.tables.Table.the-variants.{Absent, Found}
 use Rattle.font.specs.declared.charmap.CharmapIndex.{CharmapIndex}
@@ -22,18 +22,13 @@ use Rattle.font.specs.Font.{fvarOf, axisCount, axisAt, noAxis, axesOf, f
 use Rattle.font.proofs.FieldReadings.{Fields, bytesAt, fitsBy, recordBy, tableBy, findBy, angleBy, os2By, headBy, statedBy, attributesBy, countInBy, axisCountBy, axisBy, axesBy, statesBy, classBy, qualifiesBy, recordClassBy, indexInBy, indexBy, refusalBy, faceBy, fontBy}
 use Rattle.font.proofs.First.{first-same}
 use Rattle.font.proofs.Tabulated.{same}
-use Rattle.font.proofs.Lookup.{records-inside, within}
-use Rattle.font.proofs.Records.{past, best-qualifies}
-use Rattle.font.proofs.Inside.{attained}
+use Rattle.font.proofs.Lookup.{records-inside, long}
+use Rattle.font.proofs.Records.{inside, best-qualified}
 
 -- ---- a found table has its bytes
-module _ (font : List ℕ) (tag least offset len : ℕ) (e : findTable font tag least ≡ Found offset len) where
-  long : least ≤ length (bytesAt font offset len)
-  long = let w = within font tag least offset len e in simp (length-take, length-drop) (omega (arith, w .inside, w .enough))
-
-  there : 0 < least → present (bytesAt font offset len) ≡ true
-  unfolding present
-  there l = lt-ltb 0 (length (bytesAt font offset len)) (omega (arith, long))
+there : (font : List ℕ) (tag least offset len : ℕ) → findTable font tag least ≡ Found offset len → 0 < least → present (bytesAt font offset len) ≡ true
+unfolding present
+there font tag least offset len e l = lt-ltb 0 (length (bytesAt font offset len)) (omega (arith, long font tag least offset len e))
 
 -- ---- what a test of the definitions says of the fields that they then read
 
@@ -48,19 +43,6 @@ axis-inside fvar i = go (present fvar) (eqb (u16At fvar 10) 20) (leb (u16At fvar
     go true true false e l = absurd (omega arith)
     go true false c e l = absurd (omega arith)
     go false b c e l = absurd (omega arith)
-
--- the best record of a `cmap` of which one qualifies lies in it
-best-inside : (cmap : List ℕ) → someQualifies cmap ≡ true → 12 + 8 * bestRecord cmap ≤ length cmap
-unfolding bestClass bestRecord
-best-inside cmap h = go (leb (12 + 8 * bestRecord cmap) (length cmap)) refl
-  where
-    low : bestClass cmap < 4
-    low = ltb-true (bestClass cmap) 4 (best-qualifies cmap ∙ h)
-
-    go : (b : Bool) → leb (12 + 8 * bestRecord cmap) (length cmap) ≡ b → 12 + 8 * bestRecord cmap ≤ length cmap
-    go true e = leb-true (12 + 8 * bestRecord cmap) (length cmap) e
-    go false e =
-        absurd (omega (arith, low, attained 4 (recordClass cmap) (u16At cmap 2) low, past cmap (bestRecord cmap) (leb-false (12 + 8 * bestRecord cmap) (length cmap) e)))
 
 -- ---- every right reading gives the same
 
@@ -241,7 +223,7 @@ module _ (r16 r32 : Fields) (right : Right r16 r32) where
 
       go : (b : Bool) → someQualifies cmap ≡ b
           → cond b (Index (index (r32 cmap (8 + 8 * bestRecord cmap)))) Missing ≡ cond b (Index (index (subtableOffset cmap (bestRecord cmap)))) Missing
-      go true e = rw (right .whole32 cmap (8 + 8 * bestRecord cmap) (omega (arith, best-inside cmap e)))
+      go true e = rw (right .whole32 cmap (8 + 8 * bestRecord cmap) (omega (arith, inside cmap (bestRecord cmap) (best-qualified cmap e) .0)))
       go false e = refl
 
   index-same : (font : List ℕ) (t : Table) → findTable font 0x636D6170 4 ≡ t → indexBy r16 r32 font t ≡ indexIn font t

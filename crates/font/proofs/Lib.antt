@@ -29,6 +29,9 @@ pub mod FaceOf
 pub mod Qualifying
 pub mod FieldReadings
 pub mod AnyReading
+pub mod LookedAt
+pub mod CutTables
+pub mod Elsewhere
 -- Section 3: overrides.
 pub mod Defaults
 pub mod Refusals

@@ -3,11 +3,13 @@ use Prim.Native.Nat.{ℕ, _+_, _*_, _-_, _≤_}
 use mathlib.Core.Path.{_≡_, refl, _∙_}
 use mathlib.Core.Bool.{Bool, true, false, _&&_, cond}
 use mathlib.Core.List.{List, []}
+use mathlib.Core.Logic.{_⊎_, inl, inr}
 use native.Mathlib.Omega.{arith}
 use native.Mathlib.Nat.{add-sub-cancel-left}
-use lib.ListN.{length, take, drop}
+use lib.ListN.{length, take, drop, length-take, length-drop}
 use lib.Dec.{leb, ltb}
 use borrow.Author.Tests.{leb-true}
+use Rattle.font.specs.declared.tables.Table.{Table}
 use Rattle.font.specs.declared.tables.Table.the-variants.{Absent, Found}
 use Rattle.font.specs.Tables.{tableOfRecord, findTable, partOf, tableData, recordLength, recordOffset, firstRecord, directoryFits, startsAsFont, u32At, recordCount}
 
@@ -50,6 +52,10 @@ within font tag least o n = go (directoryFits font && ltb (firstRecord font tag)
     go true e = of-record font least (firstRecord font tag) o n e
     go false e = absurd (let z : _≡_ {A = ℕ} 0 1 = cc in omega arith)
 
+-- its part of the file has the bytes that were asked for
+pub long : (font : List ℕ) (tag least o n : ℕ) → findTable font tag least ≡ Found o n → least ≤ length (take n (drop o font))
+long font tag least o n e = let w = within font tag least o n e in simp (length-take, length-drop) (omega (arith, w .inside, w .enough))
+
 pub found-part : (font : List ℕ) (tag least o n : ℕ) → findTable font tag least ≡ Found o n → take (o + n - o) (drop o font) ≡ tableData font tag least
 unfolding partOf tableData
 found-part font tag least o n e = rw (add-sub-cancel-left, e)
@@ -57,3 +63,12 @@ found-part font tag least o n e = rw (add-sub-cancel-left, e)
 pub absent-part : (font : List ℕ) (tag least : ℕ) → findTable font tag least ≡ Absent → [] ≡ tableData font tag least
 unfolding partOf tableData
 absent-part font tag least e = rw e
+
+-- a table is handed out as no bytes or as at least the bytes that were asked for
+pub none-or-long : (font : List ℕ) (tag least : ℕ) → (tableData font tag least ≡ []) ⊎ (least ≤ length (tableData font tag least))
+unfolding tableData partOf
+none-or-long font tag least = go (findTable font tag least) refl
+  where
+    go : (t : Table) → findTable font tag least ≡ t → (partOf font t ≡ []) ⊎ (least ≤ length (partOf font t))
+    go Absent e = inl refl
+    go (Found o n) e = inr (long font tag least o n e)

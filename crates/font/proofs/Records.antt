@@ -6,17 +6,17 @@ use mathlib.Core.List.{List}
 use native.Mathlib.Omega.{arith}
 use lib.ListN.{length}
 use lib.Dec.{leb, ltb, eqb}
-use borrow.Author.Tests.{le-leb, lt-leb, lt-ltb, le-ltb, ltb-false}
+use borrow.Author.Tests.{leb-true, le-leb, lt-leb, lt-ltb, le-ltb, ltb-true, ltb-false}
 use Rattle.font.specs.declared.tables.Table.{Table}
 use Rattle.font.specs.declared.tables.Table.the-variants.{Absent, Found}
 use Rattle.font.specs.declared.charmap.CharmapIndex.{CharmapIndex}
 use Rattle.font.specs.declared.charmap.Charmap.the-variants.{Missing, Index}
 use Rattle.font.specs.First.{some}
 use Rattle.font.specs.Tables.{u16At, findTable, partOf, tableData}
-use Rattle.font.specs.Charmap.{isPair, classOf, subtableOffset, liesIn, pairClass, qualifies, recordClass, someQualifies, bestClass, indexOf, indexIn, charmapIndex}
+use Rattle.font.specs.Charmap.{isPair, classOf, subtableOffset, liesIn, pairClass, qualifies, recordClass, someQualifies, bestClass, bestRecord, indexOf, indexIn, charmapIndex}
 use Rattle.font.specs.Font.{hasIndex}
 use Rattle.font.proofs.First.{some-same}
-use Rattle.font.proofs.Least.{Best, best-rest, at-most, some-below}
+use Rattle.font.proofs.Least.{Best, best-rest, at-most, first-below, attained, some-below}
 
 -- a record that does not lie in the table has no class
 pub past : (cmap : List ℕ) (k : ℕ) → length cmap < 12 + 8 * k → recordClass cmap k ≡ 4
@@ -51,7 +51,7 @@ class-in cmap i h l = rw (le-leb (12 + 8 * i) (length cmap) h, le-leb (subtableO
     go false e = omega (arith, ltb-false (pairClass cmap i) 4 e, class-at-most (u16At cmap (4 + 8 * i)) (u16At cmap (6 + 8 * i)))
 
 -- a record has a class exactly where it qualifies
-has-class : (cmap : List ℕ) (i : ℕ) → ltb (recordClass cmap i) 4 ≡ qualifies cmap i
+pub has-class : (cmap : List ℕ) (i : ℕ) → ltb (recordClass cmap i) 4 ≡ qualifies cmap i
 unfolding recordClass qualifies
 has-class cmap i = go (liesIn cmap i) (ltb (pairClass cmap i) 4) refl
   where
@@ -60,12 +60,39 @@ has-class cmap i = go (liesIn cmap i) (ltb (pairClass cmap i) 4) refl
     go true false e = refl
     go false b e = refl
 
+-- one that qualifies lies in the table, as two bytes at its offset do
+pub inside : (cmap : List ℕ) (i : ℕ) → qualifies cmap i ≡ true → (12 + 8 * i ≤ length cmap) × (subtableOffset cmap i + 2 ≤ length cmap)
+unfolding qualifies liesIn
+inside cmap i = go (leb (12 + 8 * i) (length cmap)) (leb (subtableOffset cmap i + 2) (length cmap)) refl refl
+  where
+    go : (a b : Bool) → leb (12 + 8 * i) (length cmap) ≡ a → leb (subtableOffset cmap i + 2) (length cmap) ≡ b
+        → ((a && b) && ltb (pairClass cmap i) 4) ≡ true
+        → (12 + 8 * i ≤ length cmap) × (subtableOffset cmap i + 2 ≤ length cmap)
+    go true true e h q = (leb-true (12 + 8 * i) (length cmap) e, leb-true (subtableOffset cmap i + 2) (length cmap) h)
+    go true false e h q = absurd (let z : _≡_ {A = ℕ} 0 1 = cc in omega arith)
+    go false b e h q = absurd (let z : _≡_ {A = ℕ} 0 1 = cc in omega arith)
+
 -- ---- whether there is a best record
 
 -- there is one exactly where some record qualifies
 pub best-qualifies : (cmap : List ℕ) → ltb (bestClass cmap) 4 ≡ someQualifies cmap
 unfolding bestClass someQualifies
 best-qualifies cmap = some-below 4 (recordClass cmap) (u16At cmap 2) ∙ some-same (λ i. ltb (recordClass cmap i) 4) (qualifies cmap) (u16At cmap 2) (has-class cmap)
+
+-- where one does, the best record is of the table and qualifies
+module _ (cmap : List ℕ) (q : someQualifies cmap ≡ true) where
+  pub best-low : bestClass cmap < 4
+  best-low = ltb-true (bestClass cmap) 4 (best-qualifies cmap ∙ q)
+
+  pub best-stated : bestRecord cmap < u16At cmap 2
+  unfolding bestClass bestRecord
+  best-stated = first-below 4 (recordClass cmap) (u16At cmap 2) best-low
+
+  pub best-qualified : qualifies cmap (bestRecord cmap) ≡ true
+  unfolding bestClass bestRecord
+  best-qualified =
+      sym (has-class cmap (bestRecord cmap))
+      ∙ lt-ltb (recordClass cmap (bestRecord cmap)) 4 (omega (arith, attained 4 (recordClass cmap) (u16At cmap 2) best-low, best-low))
 
 -- a record that has a class
 pub some-class : (cmap : List ℕ) (i : ℕ) → i < u16At cmap 2 → recordClass cmap i < 4 → true ≡ someQualifies cmap

@@ -1,4 +1,4 @@
--- What the contracts of `font` cite. Each definition is written from the scope's sections 1 to 3 and from OpenType.
+-- What the contracts of `font` cite. Each definition renders the rules of docs/GUIDE.md, sections 1 to 3, and OpenType's tables.
 pub mod First
 pub mod Single
 pub mod Nearest
@@ -8,5 +8,6 @@ pub mod Charmap
 pub mod Reading
 pub mod Font
 pub mod Overrides
--- Section 3's sentence on pairs, as laws of these.
+-- As laws of these: section 3's sentence on pairs, and what section 2 looks at in a file.
 pub mod Pairs
+pub mod LookedAt

@@ -1,4 +1,4 @@
--- Section 4 and the scope's first section: a family by value with its default, and the fetch of a face by place.
+-- Sections 4 and 6: a family by value with its default, and the fetch of a face by place.
 use Prim.Native.Nat.{ℕ}
 use mathlib.Core.Bool.{cond}
 use mathlib.Core.List.{List}

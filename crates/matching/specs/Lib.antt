@@ -1,4 +1,4 @@
--- What the contracts of `matching` cite. Each definition is written from the scope's sections 4 and 5.
+-- What the contracts of `matching` cite. Each definition renders the rules of docs/GUIDE.md, sections 4 and 5.
 pub mod Rank
 pub mod Below
 pub mod Order

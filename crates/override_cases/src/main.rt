@@ -1,7 +1,7 @@
 // Runs built-in faces through `apply_override` and `maybe_override_attributes`, and prints a line for each case.
 //
-// The file `stdout` of this crate is what `python3 tools/override_cases.py` prints: a model of section 3 of 01 and of the
-// refusals 19 and 26, run on the same cases, which bear the same names there. A line is
+// The file `stdout` of this crate is what `python3 tools/override_cases.py` prints: a model of docs/GUIDE.md, section 3, and of
+// the refusals 19 and 26, run on the same cases, which bear the same names there. A line is
 //
 //     NAME: refused N
 //     NAME: RATIO KIND ANGLE WEIGHT TAG=MIN,DEFAULT,MAX ..

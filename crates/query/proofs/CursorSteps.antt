@@ -1,5 +1,5 @@
 -- Demand 3, over a job: each number of a request gets the offer of that number, and a fresh cursor that is stepped n times gives the offers of
--- 01's list in order, and then "past the list" each time.
+-- section 6's list in order, and then "past the list" each time.
 use Prim.Native.Nat.{ℕ, zero, suc, _+_, _-_, _^_, _≤_, _<_}
 use mathlib.Core.Path.{_≡_, refl, sym, _∙_, ap}
 use mathlib.Core.Bool.{Bool, true, false}

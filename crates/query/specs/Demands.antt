@@ -1,5 +1,5 @@
--- Demands 1 and 3 over the bytes of a job, as statements about the definitions that the contracts cite. The calls on a job promise them of the bytes that they are
--- given; proved in proofs/Demands.antt.
+-- Demands 1 and 3 (docs/GUIDE.md, section 8) over the bytes of a job, as statements about the definitions that the contracts cite. The calls on a job promise them
+-- of the bytes that they are given; proved in proofs/Demands.antt.
 use Prim.Native.Nat.{ℕ, _-_, _≤_, _<_}
 use mathlib.Core.Path.{_≡_}
 use mathlib.Core.Bool.{true, false, cond}
@@ -46,7 +46,7 @@ module _ (job : Job) (k : ℕ) where
 
 -- ---- demand 1
 
--- "Every job that keeps document 01's layout and limits is read to its end and each request in it gets its offers." A number outside the job is 28.
+-- "Every job that keeps the layout and limits is read to its end and each request in it gets its offers." A number outside the job is 28.
 pub record Kept (s : List ℕ) (job : Job) : Type 0 where
   pub end : readJob s ≡ got job (length s)
   pub check : checkJob s ≡ record { refusal = 0; position = 0 }
@@ -59,7 +59,7 @@ pub record Kept (s : List ℕ) (job : Job) : Type 0 where
 abbrev pub cutBefore : Refusal → ℕ → Checked
 cutBefore w p = cond (eqb (number w) 27) (record { refusal = 0; position = 0 }) (record { refusal = 18; position = p })
 
--- "Every other job .. gets the refusal of 01's table, with the output buffer untouched": the row of the field first met, and that field's position. Which row a
+-- "Every other job .. gets the refusal of the table, with the output buffer untouched": the row of the field first met, and that field's position. Which row a
 -- field has is said where it is read (Fields, Entries). The bytes before the field, and, but for 18, those after it, change nothing of it.
 pub record Other (s : List ℕ) : Type 0 where
   pub why : Refusal
@@ -82,7 +82,7 @@ pub record Chooses (family : Order.Family) (request : Request) : Type 0 where
 abbrev pub familyAt : Job → ℕ → Order.Family
 familyAt job f = familyOf (facesOf (viewOf job) f) (length (facesOf (viewOf job) f))
 
--- The choice, in each family of the job and so in each that the request names, and the same of its default. "An offer call that 01 does not refuse answers the
+-- The choice, in each family of the job and so in each that the request names, and the same of its default. "An offer call that is not refused answers the
 -- offer of the number asked for, with its synthesis, or, exactly where the list has no such offer, that it lies past the list. .. a fresh cursor stepped any number
 -- of times .. gives the same offers, each with its synthesis, in order, then "past the list" each time."
 pub record Offered (s : List ℕ) (job : Job) (k : ℕ) : Type 0 where

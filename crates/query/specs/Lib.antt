@@ -1,4 +1,4 @@
--- What the contracts of `query` cite. Each definition is written from the scope's section 6.
+-- What the contracts of `query` cite. Each definition renders the rules of docs/GUIDE.md, section 6.
 pub mod Sizes
 pub mod Reader
 pub mod Fields

@@ -1,0 +1,131 @@
+-- What section 2 looks at in a font file. Two files that are alike there are read alike (`proofs/LookedAt.antt`), whatever else they hold.
+use Prim.Native.Nat.{ℕ, _+_, _*_, _≤_, _<_, max}
+use mathlib.Core.Path.{_≡_}
+use mathlib.Core.Bool.{Bool, true, false}
+use mathlib.Core.List.{List, []}
+use lib.ListN.{length, take}
+use Rattle.font.specs.declared.tables.Table.the-variants.{Found}
+use Rattle.font.specs.declared.charmap.Charmap.the-variants.{Missing, Index}
+use Rattle.font.specs.declared.font.FontInfo.{FontInfo}
+use Rattle.font.specs.Tables.{u16At, findTable, tableData}
+use Rattle.font.specs.Charmap.{subtableOffset, liesIn, pairClass, qualifies, charmapIndex}
+use Rattle.font.specs.Reading.{readAttributes}
+use Rattle.font.specs.Font.{fvarOf, axisCount, axesOf, fontRefusal, statesAxis}
+
+-- ---- tables that are alike; an absent one is handed out as no bytes
+
+-- both have n bytes, and their first n are the same
+pub record Agree (n : ℕ) (s t : List ℕ) : Type 0 where
+  pub in-first : n ≤ length s
+  pub in-second : n ≤ length t
+  pub same : take n s ≡ take n t
+
+-- OS/2, `post` and `head`: "at least" so many bytes, and of these alone a field is read
+pub data Alike (n : ℕ) (s t : List ℕ) : Type 0 where
+  absent : s ≡ [] → t ≡ [] → Alike n s t
+  found : Agree n s t → Alike n s t
+
+-- `fvar`: the 16 bytes that it has at least, and the records of its axes
+pub data AxesAlike (s t : List ℕ) : Type 0 where
+  no-axes : axisCount s ≡ 0 → axisCount t ≡ 0 → AxesAlike s t
+  with-axes : (n : ℕ) → 16 ≤ n → u16At s 4 + 20 * u16At s 8 ≤ n → Agree n s t → AxesAlike s t
+
+-- `cmap`: a record of c that qualifies has its number and its class in d too, and qualifies there; its subtable may lie elsewhere.
+abbrev pub Keeps : List ℕ → List ℕ → Type 0
+Keeps c d =
+    (i : ℕ) → i < u16At c 2 → qualifies c i ≡ true
+    → (i < u16At d 2) × (qualifies d i ≡ true) × (pairClass d i ≡ pairClass c i)
+
+pub record RecordsAlike (c d : List ℕ) : Type 0 where
+  pub forth : Keeps c d
+  pub back : Keeps d c
+
+-- ---- tables that are cut to what is looked at
+
+-- `fvar`: to its 16 bytes and its records, or left out where it gives no axes
+pub data CutAxes (s t : List ℕ) : Type 0 where
+  cut : t ≡ take (max 16 (u16At s 4 + 20 * u16At s 8)) s → CutAxes s t
+  left-out : axisCount s ≡ 0 → t ≡ [] → CutAxes s t
+
+-- `cmap`: d has the records of c, but for some at the end that do not lie in c. Each of d's lies in it, with two bytes at its offset, exactly
+-- where it does in c; the offset may be another.
+pub record CutRecords (c d : List ℕ) : Type 0 where
+  pub fewer : u16At d 2 ≤ u16At c 2
+  pub rest : (i : ℕ) → u16At d 2 ≤ i → i < u16At c 2 → liesIn c i ≡ false
+  pub lies : (i : ℕ) → i < u16At d 2 → liesIn d i ≡ liesIn c i
+  pub platform : (i : ℕ) → i < u16At d 2 → u16At d (4 + 8 * i) ≡ u16At c (4 + 8 * i)
+  pub encoding : (i : ℕ) → i < u16At d 2 → u16At d (6 + 8 * i) ≡ u16At c (6 + 8 * i)
+
+-- ---- the five tables
+
+-- their tags, with the bytes that each has at least
+pub data Five : ℕ → ℕ → Type 0 where
+  os2 : Five 0x4F532F32 78
+  post : Five 0x706F7374 32
+  head : Five 0x68656164 54
+  fvar : Five 0x66766172 16
+  cmap : Five 0x636D6170 4
+
+-- However they are found, s and t hand out the bytes of a table by its tag and the length that it has at least. What is looked at is the same:
+pub record SameTables (s t : ℕ → ℕ → List ℕ) : Type 0 where
+  pub os2 : Alike 78 (s 0x4F532F32 78) (t 0x4F532F32 78)
+  pub post : Alike 32 (s 0x706F7374 32) (t 0x706F7374 32)
+  pub head : Alike 54 (s 0x68656164 54) (t 0x68656164 54)
+  pub fvar : AxesAlike (s 0x66766172 16) (t 0x66766172 16)
+  pub cmap : RecordsAlike (s 0x636D6170 4) (t 0x636D6170 4)
+
+-- all their bytes are the same
+abbrev pub EqualTables : (ℕ → ℕ → List ℕ) → (ℕ → ℕ → List ℕ) → Type 0
+EqualTables s t = (tag least : ℕ) → Five tag least → s tag least ≡ t tag least
+
+-- those of t are cut to what is looked at in those of s
+pub record CutTables (s t : ℕ → ℕ → List ℕ) : Type 0 where
+  pub os2 : t 0x4F532F32 78 ≡ take 78 (s 0x4F532F32 78)
+  pub post : t 0x706F7374 32 ≡ take 32 (s 0x706F7374 32)
+  pub head : t 0x68656164 54 ≡ take 54 (s 0x68656164 54)
+  pub fvar : CutAxes (s 0x66766172 16) (t 0x66766172 16)
+  pub cmap : CutRecords (s 0x636D6170 4) (t 0x636D6170 4)
+
+-- ---- what is read of font files
+
+-- the charmap index of a font is that of the record i of its `cmap`, which qualifies
+pub record OfRecord (font : List ℕ) (i : ℕ) (symbol roman : Bool) : Type 0 where
+  pub offset : ℕ
+  pub len : ℕ
+  pub lies : findTable font 0x636D6170 4 ≡ Found offset len
+  pub stated : i < u16At (tableData font 0x636D6170 4) 2
+  pub qualified : qualifies (tableData font 0x636D6170 4) i ≡ true
+  pub index : charmapIndex font
+      ≡ Index
+      (record {
+        «subtable_offset» = offset + subtableOffset (tableData font 0x636D6170 4) i;
+        «is_symbol» = symbol;
+        «is_mac_roman» = roman;
+      })
+
+-- no index in both, or in both that of one record, with the same flags
+pub data SameIndex (f g : List ℕ) : Type 0 where
+  missing : charmapIndex f ≡ Missing → charmapIndex g ≡ Missing → SameIndex f g
+  of-record : (i : ℕ) (symbol roman : Bool) → OfRecord f i symbol roman → OfRecord g i symbol roman → SameIndex f g
+
+pub record SameReading (f g : List ℕ) : Type 0 where
+  pub attributes : readAttributes f ≡ readAttributes g
+  pub axis-count : axisCount (fvarOf f) ≡ axisCount (fvarOf g)
+  pub axes : axesOf (fvarOf f) (axisCount (fvarOf f)) ≡ axesOf (fvarOf g) (axisCount (fvarOf g))
+  pub states : (tag : ℕ) → statesAxis f tag ≡ statesAxis g tag
+  pub refusal : fontRefusal f ≡ fontRefusal g
+  pub index : SameIndex f g
+
+-- a face whose charmap subtable is said to lie at n
+unfoldable pub subtableAt : ℕ → FontInfo → FontInfo
+subtableAt n face =
+    record {
+      attributes = face .attributes;
+      axes = face .axes;
+      «axis_count» = face .«axis_count»;
+      «charmap_index» = record {
+        «subtable_offset» = n;
+        «is_symbol» = face .«charmap_index» .«is_symbol»;
+        «is_mac_roman» = face .«charmap_index» .«is_mac_roman»;
+      };
+    }
