@@ -9,6 +9,7 @@ use std::{env, fs, hint::black_box, process::ExitCode};
 
 use measure::{Measured, Spread, rounds};
 use reference::call;
+use stemhook::limits::OFFER_BYTES;
 
 const USAGE: &str = "\
 usage:
@@ -16,6 +17,9 @@ usage:
   bench --loop SIZE [--rounds N]                 our offer call alone, for a profile
   bench --batch proved|rust SIZE CALLS BATCHES   nothing but these calls, for their instructions
 SIZE is small, middle, large or lists; CALLS is `check`, or REQUEST:OFFER with commas between them";
+
+/// The static library that is linked.
+const LIBRARY: &str = env!("STEMHOOK_LIBRARY");
 
 /// Rounds where no number is given.
 const ROUNDS: usize = 41;
@@ -79,7 +83,19 @@ const SPREAD: u32 = 16;
 type Offer = fn(&[u8], u32, u32, &mut [u8]) -> u32;
 
 /// The sides by the names that a command has for them.
-const SIDES: [(&str, Offer); 2] = [("proved", exported::offer), ("rust", call::offer)];
+const SIDES: [(&str, Offer); 2] = [("proved", proved), ("rust", call::offer)];
+
+/// The crate's offer call, its answer as a number.
+fn proved(job: &[u8], request: u32, number: u32, out: &mut [u8]) -> u32 {
+    match stemhook::offer_bytes(job, request, number, out) {
+        Ok(true) => 0,
+        Ok(false) => 1,
+        Err(refused) => refused.number(),
+    }
+}
+
+/// Room for an offer.
+type Output = [u8; OFFER_BYTES];
 
 /// A job, and for some of its requests the number of their offers.
 struct Asked {
@@ -90,16 +106,16 @@ struct Asked {
 /// Asks both sides for every offer of some requests, up to one past each
 /// list. This is the warm-up too.
 fn ask(job: Vec<u8>, most: usize) -> Result<Asked, String> {
-    let parts = jobs::layout::parts(&job);
+    let parts = jobs::layout::parts(&job).ok_or("a job that does not keep the layout")?;
     let count = parts.requests.len();
     let asked = count.min(most);
     let mut lists = Vec::new();
     for request in (0..asked).map(|i| (i * count / asked + i % 5).min(count - 1) as u32) {
         let mut offer = 0;
         loop {
-            let mut ours = [0x5a; 40];
-            let mut theirs = [0x5a; 40];
-            let answer = exported::offer(&job, request, offer, &mut ours);
+            let mut ours = [0x5a; OFFER_BYTES];
+            let mut theirs = [0x5a; OFFER_BYTES];
+            let answer = proved(&job, request, offer, &mut ours);
             let other = call::offer(&job, request, offer, &mut theirs);
             if (answer, ours) != (other, theirs) {
                 return Err(format!(
@@ -147,7 +163,7 @@ fn calls(asked: &Asked, which: Which) -> Vec<(u32, u32)> {
 }
 
 /// A batch of offer calls; the output is not cleared between them.
-fn batch(job: &[u8], calls: &[(u32, u32)], out: &mut [u8; 40], offer: Offer) {
+fn batch(job: &[u8], calls: &[(u32, u32)], out: &mut Output, offer: Offer) {
     for (request, number) in calls {
         let out = black_box(&mut out[..]);
         black_box(offer(black_box(job), *request, *number, out));
@@ -156,12 +172,12 @@ fn batch(job: &[u8], calls: &[(u32, u32)], out: &mut [u8; 40], offer: Offer) {
 
 fn offers(asked: &Asked, which: Which, count: usize) -> Measured {
     let calls = calls(asked, which);
-    let (mut ours, mut theirs) = ([0; 40], [0; 40]);
+    let (mut ours, mut theirs) = ([0; OFFER_BYTES], [0; OFFER_BYTES]);
     rounds(
         count,
         calls.len(),
         &mut [
-            &mut || batch(&asked.job, &calls, &mut ours, exported::offer),
+            &mut || batch(&asked.job, &calls, &mut ours, proved),
             &mut || batch(&asked.job, &calls, &mut theirs, call::offer),
         ],
     )
@@ -224,7 +240,7 @@ fn check_calls(asked: &Asked, count: usize) -> Measured {
         1,
         &mut [
             &mut || {
-                black_box(exported::check(black_box(job)));
+                let _ = black_box(stemhook::check(black_box(job)));
             },
             &mut || {
                 let _ = black_box(call::check(black_box(job)));
@@ -240,7 +256,7 @@ fn stack_of(asked: &Asked, offer: Offer) -> usize {
     let mut most = 0;
     for which in [Which::First, Which::Last, Which::Past] {
         let calls = calls(asked, which);
-        let mut out = [0; 40];
+        let mut out = [0; OFFER_BYTES];
         most = most.max(stack::used(&mut || {
             batch(&asked.job, &calls, &mut out, offer)
         }));
@@ -332,7 +348,7 @@ fn tables(count: usize) -> Result<(), String> {
     }
     println!("| no call | {0} | {0} |", stack::used(&mut || {}));
     println!("\n### Size\n");
-    let library = fs::metadata(exported::library()).map_err(|error| error.to_string())?;
+    let library = fs::metadata(LIBRARY).map_err(|error| error.to_string())?;
     println!("The static library: {} bytes.", library.len());
     Ok(())
 }
@@ -342,9 +358,9 @@ fn repeat(size: &str, count: usize) -> Option<Result<(), String>> {
     let size = size_of(size)?;
     Some(ask((size.job)(), size.asked).map(|asked| {
         let calls = calls(&asked, Which::First);
-        let mut out = [0; 40];
+        let mut out = [0; OFFER_BYTES];
         for _ in 0..count {
-            batch(&asked.job, &calls, &mut out, exported::offer);
+            batch(&asked.job, &calls, &mut out, proved);
         }
         println!("{} calls", count * calls.len());
     }))
@@ -358,7 +374,7 @@ fn batches(side: &str, size: &str, calls: &str, count: &str) -> Option<()> {
     if calls == "check" {
         for _ in 0..count {
             if side == "proved" {
-                black_box(exported::check(black_box(job)));
+                let _ = black_box(stemhook::check(black_box(job)));
             } else {
                 let _ = black_box(call::check(black_box(job)));
             }
@@ -370,7 +386,7 @@ fn batches(side: &str, size: &str, calls: &str, count: &str) -> Option<()> {
         Some((request.parse().ok()?, number.parse().ok()?))
     };
     let calls: Vec<(u32, u32)> = calls.split(',').map(pair).collect::<Option<_>>()?;
-    let mut out = [0; 40];
+    let mut out = [0; OFFER_BYTES];
     for _ in 0..count {
         batch(job, &calls, &mut out, offer);
     }
@@ -433,7 +449,7 @@ mod tests {
     #[test]
     fn counts_of_the_sizes() {
         let counts = |job: Vec<u8>| {
-            let job = jobs::layout::parts(&job);
+            let job = jobs::layout::parts(&job).unwrap();
             (
                 job.faces.len(),
                 job.overrides.len(),
@@ -444,10 +460,12 @@ mod tests {
         assert_eq!(counts(sizes::small()), (2, 0, 1, 1));
         assert_eq!(counts(sizes::middle(0)), (12, 0, 2, 20));
         assert_eq!(counts(sizes::large()), (256, 256, 64, 256));
-        let large = jobs::layout::parts(&sizes::large());
+        let large = sizes::large();
+        let large = jobs::layout::parts(&large).unwrap();
         assert!(large.families.iter().all(|places| places.len() == 64));
         assert_eq!(counts(sizes::lists()), (256, 0, 64, 256));
-        let lists = jobs::layout::parts(&sizes::lists());
+        let lists = sizes::lists();
+        let lists = jobs::layout::parts(&lists).unwrap();
         let places = lists.families.iter().map(Vec::len);
         assert_eq!(places.clone().min().zip(places.max()), Some((4, 8)));
         for request in &lists.requests {
@@ -464,10 +482,10 @@ mod tests {
     #[test]
     fn last_of_a_long_list() {
         let asked = ask(sizes::lists(), 2).unwrap();
-        let job = jobs::layout::parts(&asked.job);
+        let job = jobs::layout::parts(&asked.job).unwrap();
         for (request, number) in calls(&asked, Which::Last) {
-            let mut out = [0; 40];
-            assert_eq!(exported::offer(&asked.job, request, number, &mut out), 0);
+            let mut out = [0; OFFER_BYTES];
+            assert_eq!(proved(&asked.job, request, number, &mut out), 0);
             let known = job.requests[request as usize].fallbacks.iter();
             let last = known.rev().find(|family| **family < 64);
             assert_eq!(last, Some(&u16::from_be_bytes([out[0], out[1]])));

@@ -1,7 +1,5 @@
 //! Families: choice, equal list, default and synthesis of the linked program
-//! beside the original, or beside the plain reading where that is not here.
-
-use std::fmt::Write as _;
+//! beside the plain reading, and beside the original where that is here.
 
 use jobs::{
     families::{self, Asked, Case, FacePlan},
@@ -11,11 +9,15 @@ use jobs::{
 use plain::{
     Single,
     font::{self, Angle, Attributes, Font, Style},
-    matching,
-    synthesis::synthesis,
+    lines::{self, Answer},
 };
 
-use crate::{kinds::Kinds, original, program::Program, shrink};
+use crate::{
+    kinds::Kinds,
+    original::{self, Family},
+    program::Program,
+    shrink,
+};
 
 fn style(style: JobStyle) -> Style {
     match style.kind {
@@ -54,70 +56,21 @@ fn attributes(asked: Asked) -> Attributes {
     }
 }
 
-fn put_attributes(out: &mut Vec<u8>, attributes: &Attributes) {
-    let (kind, angle) = match attributes.style {
-        Style::Normal => (0, 0),
-        Style::Italic => (1, 0),
-        Style::Oblique(Angle::Unstated) => (2, 0),
-        Style::Oblique(Angle::Degrees(degrees)) => (3, degrees.0),
-    };
-    out.extend(attributes.ratio.0.to_be_bytes());
-    out.push(kind);
-    out.extend(angle.to_be_bytes());
-    out.extend(attributes.weight.0.to_be_bytes());
-}
-
-/// The bytes of a case as the program reads them.
-fn bytes(synthesis: bool, request: &Attributes, faces: &[Font]) -> Vec<u8> {
-    let mut out = vec![u8::from(synthesis)];
-    put_attributes(&mut out, request);
-    out.push(faces.len() as u8);
-    for face in faces {
-        put_attributes(&mut out, &face.attributes);
-        out.push(face.axes.len() as u8);
-        for axis in &face.axes {
-            out.extend(axis.tag);
-            for number in [axis.minimum, axis.default, axis.maximum] {
-                out.extend(number.0.to_be_bytes());
-            }
-        }
-    }
-    out
-}
-
-/// The line of a case by the plain reading.
-fn line(on: bool, request: &Attributes, faces: &[Font]) -> String {
-    let faces: Vec<&Font> = faces.iter().collect();
-    let choice = matching::choice(&faces, request, on);
-    let equal: Vec<String> = matching::equal_list(&faces, request, on)
-        .iter()
-        .map(usize::to_string)
-        .collect();
-    let default = matching::default(&faces);
-    let shown = synthesis(faces[choice.unwrap_or(default)], request);
-    let or_none = |text: String| if text.is_empty() { "-".into() } else { text };
-    let mut line = format!(
-        "{} {} {default} {} {}",
-        or_none(choice.map(|place| place.to_string()).unwrap_or_default()),
-        or_none(equal.join(",")),
-        if shown.embolden { 'b' } else { '-' },
-        shown.skew,
-    );
-    for (tag, value) in &shown.settings {
-        let _ = write!(line, " {}={:08x}", tag.escape_ascii(), value.0);
-    }
-    line
-}
-
-/// Bytes and lines of a case by the plain reading, synthesis on and then off.
-fn by_plain(case: &Case) -> [(Vec<u8>, String); 2] {
+/// Bytes and lines of a case by the plain reading.
+fn by_plain(case: &Case) -> Family {
     let request = attributes(case.request);
     let faces: Vec<Font> = case.faces.iter().map(face).collect();
-    [true, false].map(|on| (bytes(on, &request, &faces), line(on, &request, &faces)))
+    [true, false].map(|on| {
+        let line = Answer::of(&faces, &request, on).line();
+        (lines::family_bytes(on, &request, &faces), line)
+    })
 }
 
-fn expected(case: &Case) -> [(Vec<u8>, String); 2] {
-    original::family(case).unwrap_or_else(|| by_plain(case))
+/// Bytes and lines that all sides have to give; none where the original has others.
+fn expected(case: &Case) -> Option<Family> {
+    let plain = by_plain(case);
+    let same = original::family(case).is_none_or(|answers| answers == plain);
+    same.then_some(plain)
 }
 
 /// What has been compared.
@@ -131,6 +84,13 @@ pub struct Counts {
 }
 
 impl Counts {
+    fn add(&mut self, case: &Case, lines: &[String; 2]) {
+        self.families += 1;
+        self.choices += 2;
+        self.none += lines.iter().filter(|line| line.starts_with('-')).count() as u64;
+        self.kinds.add(case);
+    }
+
     pub fn text(&self) -> String {
         format!(
             "families {} choices {} of them none chosen {}\n{}",
@@ -166,7 +126,7 @@ fn chunk(
     let mut list = Vec::new();
     let mut asked: Vec<(Case, [String; 2])> = Vec::new();
     for case in cases {
-        let answers = expected(&case);
+        let answers = expected(&case).ok_or_else(|| tell(program, &case))?;
         let size: usize = answers.iter().map(|(bytes, _)| bytes.len()).sum();
         if list.len() + size > program.most {
             break;
@@ -180,16 +140,23 @@ fn chunk(
             break;
         }
     }
-    let lines = program.lines(&list)?;
+    same(program, &list, &asked, counts)
+}
+
+/// Whether the program prints two lines for each case, and the right ones.
+fn same(
+    program: &Program,
+    list: &[u8],
+    asked: &[(Case, [String; 2])],
+    counts: &mut Counts,
+) -> Result<(), String> {
+    let lines = program.lines(list)?;
     let (pairs, rest) = lines.as_chunks::<2>();
     for (i, (case, expected)) in asked.iter().enumerate() {
         if pairs.get(i) != Some(expected) {
             return Err(tell(program, case));
         }
-        counts.families += 1;
-        counts.choices += 2;
-        counts.none += expected.iter().filter(|line| line.starts_with('-')).count() as u64;
-        counts.kinds.add(case);
+        counts.add(case, expected);
     }
     if pairs.len() != asked.len() || !rest.is_empty() {
         return Err(format!(
@@ -204,24 +171,27 @@ fn chunk(
 
 /// What the program prints for a case, or why it prints nothing.
 fn printed(program: &Program, case: &Case) -> String {
-    let list: Vec<u8> = expected(case)
+    let list: Vec<u8> = by_plain(case)
         .into_iter()
         .flat_map(|(bytes, _)| bytes)
         .collect();
-    match program.lines(&list) {
-        Ok(lines) => lines.join("\n  "),
-        Err(error) => error,
-    }
+    program.printed(&list)
+}
+
+fn both(answers: Family) -> String {
+    answers.map(|(_, line)| line).join("\n  ")
 }
 
 /// The smallest family that was found to differ, and what each side says.
 fn tell(program: &Program, case: &Case) -> String {
-    let lines = |answers: [(Vec<u8>, String); 2]| answers.map(|(_, line)| line).join("\n  ");
-    let least = shrink::family(case, |case| printed(program, case) != lines(expected(case)));
-    let by_original = original::family(&least).map_or("nothing".into(), lines);
+    let least = shrink::family(case, |case| {
+        Some(printed(program, case)) != expected(case).map(both)
+    });
+    let alone = shrink::alone(Some(printed(program, &least)) != expected(&least).map(both));
     format!(
-        "difference in a family, synthesis on and then off: {least:?}\n01 (plain):\n  {}\nthe original:\n  {by_original}\nthe proved code:\n  {}",
-        lines(by_plain(&least)),
+        "difference in a family, synthesis on and then off{alone}: {least:?}\nthe guide (plain):\n  {}\nthe original:\n  {}\nthe proved code:\n  {}",
+        both(by_plain(&least)),
+        original::family(&least).map_or("nothing".into(), both),
         printed(program, &least)
     )
 }
@@ -232,12 +202,11 @@ mod tests {
     use crate::program::MATCH_CASES;
 
     /// The plain reading and the original agree on bytes and lines.
+    #[cfg(feature = "original")]
     #[test]
     fn plain_and_original() {
         for case in families::with_zeros(31).take(3000) {
-            if let Some(answers) = original::family(&case) {
-                assert_eq!(answers, by_plain(&case));
-            }
+            assert_eq!(original::family(&case), Some(by_plain(&case)));
         }
     }
 
@@ -260,7 +229,7 @@ mod tests {
             ..MATCH_CASES
         };
         let told = compare(&lost, 3, 6000).err().expect("a difference");
-        assert!(told.contains("01 (plain):") && told.contains("the proved code:"));
+        assert!(told.contains("the guide (plain):") && told.contains("the proved code:"));
         assert_eq!(told.matches("FacePlan").count(), 1, "{told}");
         // The last line is missing.
         let cut = Program {

@@ -1,58 +1,21 @@
 //! Fonts: attributes, axes, charmap index or refusal of the linked program
-//! beside the original, or beside the plain reading where that is not here.
+//! beside the plain reading, and beside the original where that is here.
 
-use std::fmt::Write as _;
+use jobs::{bytes::hex, counts::numbers, font_list, fonts::random_font, random::Random};
+use plain::{font, lines};
 
-use jobs::{fonts::random_font, random::Random};
-use plain::font::{self, Angle, Font, Style};
-
-use crate::{
-    job::{hex, numbers},
-    original,
-    program::Program,
-    shrink,
-};
+use crate::{original, program::Program, shrink};
 
 /// The line of a font by the plain reading.
 fn by_plain(bytes: &[u8]) -> String {
-    match font::read(bytes) {
-        Err(number) => format!("refused {number}"),
-        Ok(font) => read_line(&font),
-    }
+    lines::font(&font::read(bytes))
 }
 
-fn read_line(font: &Font) -> String {
-    let own = &font.attributes;
-    let (kind, angle) = match own.style {
-        Style::Normal => (0, 0),
-        Style::Italic => (1, 0),
-        Style::Oblique(Angle::Unstated) => (2, 0),
-        Style::Oblique(Angle::Degrees(degrees)) => (3, degrees.0),
-    };
-    let mut line = format!(
-        "read {:08x} {kind} {angle:08x} {:08x} {} {} {} {}",
-        own.ratio.0,
-        own.weight.0,
-        font.charmap.offset,
-        u8::from(font.charmap.symbol),
-        u8::from(font.charmap.mac_roman),
-        font.axes.len(),
-    );
-    for axis in &font.axes {
-        let _ = write!(
-            line,
-            " {:08x}={:08x},{:08x},{:08x}",
-            u32::from_be_bytes(axis.tag),
-            axis.minimum.0,
-            axis.default.0,
-            axis.maximum.0,
-        );
-    }
-    line
-}
-
-fn expected(bytes: &[u8]) -> String {
-    original::font(bytes).unwrap_or_else(|| by_plain(bytes))
+/// The line that all sides have to give; none where the original has another.
+fn expected(bytes: &[u8]) -> Option<String> {
+    let plain = by_plain(bytes);
+    let same = original::font(bytes).is_none_or(|line| line == plain);
+    same.then_some(plain)
 }
 
 /// What has been compared.
@@ -93,7 +56,8 @@ impl Counts {
 pub fn compare(program: &Program, seed: u64, fonts: u64) -> Result<Counts, String> {
     let mut counts = Counts::default();
     let mut seeds = Random::new(seed);
-    let mut first = original::fonts(seed);
+    let list = font_list::list(seed).fonts.into_iter();
+    let mut first: Vec<Vec<u8>> = list.map(|(_, bytes)| bytes).collect();
     while counts.fonts < fonts {
         // What did not fit is left: the next chunk has a new seed.
         let mut r = Random::new(seeds.draw());
@@ -130,11 +94,10 @@ fn chunk(
     }
     let lines = program.lines(&list)?;
     for (i, font) in asked.iter().enumerate() {
-        let expected = expected(font);
-        if lines.get(i) != Some(&expected) {
-            return Err(tell(program, font));
+        match expected(font) {
+            Some(line) if lines.get(i) == Some(&line) => counts.add(&line),
+            _ => return Err(tell(program, font)),
         }
-        counts.add(&expected);
     }
     if lines.len() != asked.len() {
         return Err(format!(
@@ -150,17 +113,15 @@ fn chunk(
 fn printed(program: &Program, font: &[u8]) -> String {
     let mut list = Vec::new();
     put(&mut list, font);
-    match program.lines(&list) {
-        Ok(lines) => lines.join("\n"),
-        Err(error) => error,
-    }
+    program.printed(&list)
 }
 
 /// The shortest font that was found to differ, and what each side says.
 fn tell(program: &Program, font: &[u8]) -> String {
-    let least = shrink::font(font, |font| printed(program, font) != expected(font));
+    let least = shrink::font(font, |font| Some(printed(program, font)) != expected(font));
+    let alone = shrink::alone(Some(printed(program, &least)) != expected(&least));
     format!(
-        "difference in a font of {} bytes: {}\n01 (plain): {}\nthe original: {}\nthe proved code: {}",
+        "difference in a font of {} bytes{alone}: {}\nthe guide (plain): {}\nthe original: {}\nthe proved code: {}",
         least.len(),
         hex(&least),
         by_plain(&least),
@@ -174,12 +135,13 @@ mod tests {
     use super::*;
     use crate::program::FONT_CASES;
 
+    #[cfg(feature = "original")]
     #[test]
     fn plain_and_original() {
         let mut r = Random::new(8);
         for _ in 0..3000 {
             let font = random_font(&mut r);
-            assert_eq!(expected(&font), by_plain(&font));
+            assert_eq!(original::font(&font), Some(by_plain(&font)));
         }
     }
 
@@ -206,7 +168,7 @@ mod tests {
         let size = told.split_once("a font of ").unwrap().1;
         let size: usize = size.split_once(' ').unwrap().0.parse().unwrap();
         assert!(size < 50, "{told}");
-        assert!(told.contains("01 (plain): refused 22"), "{told}");
+        assert!(told.contains("the guide (plain): refused 22"), "{told}");
         assert!(told.contains("the proved code: refused 21"), "{told}");
     }
 }

@@ -1,10 +1,12 @@
 //! Compares the proved code with the original and with the plain reading.
 
+mod calls;
 mod family;
 mod font;
 mod job;
 mod kinds;
 mod original;
+mod overrides;
 mod program;
 mod shrink;
 
@@ -50,7 +52,7 @@ fn options(mut args: impl Iterator<Item = String>) -> Option<Options> {
 
 /// The jobs made for a purpose, the largest, then random ones.
 fn compare_jobs(seed: u64, count: u64) -> Result<String, String> {
-    let mut sides = Sides::new(job::PROVED);
+    let mut sides = Sides::new(calls::PROVED);
     let made = list::made().into_iter().chain(list::largest());
     for case in made.chain(list::random(seed).take(count as usize)) {
         sides.compare(&case)?;
@@ -82,9 +84,10 @@ fn run(options: &Options) -> Result<(), String> {
         if original::HERE {
             "the original and plain"
         } else {
-            "plain alone: the original is not compiled"
+            "plain alone: the original is not compiled, and nothing is compared with it"
         }
     );
+    print!("{}", overrides::compare(&overrides::printed()?)?.text());
     part("fonts", options.fonts, || {
         font::compare(&program::FONT_CASES, seed, options.fonts).map(|counts| counts.text())
     })?;
@@ -107,5 +110,31 @@ fn main() -> ExitCode {
             eprintln!("beside: {difference}");
             ExitCode::FAILURE
         }
+    }
+}
+
+#[cfg(test)]
+mod tests {
+    use plain::{job, offers};
+    use stemhook::limits;
+
+    /// The limits are read once more in `plain`, and are the crate's.
+    #[test]
+    fn limits_are_the_same() {
+        let [faces, overrides, families, places, requests] = [
+            job::FACES,
+            job::OVERRIDES,
+            job::FAMILIES,
+            job::PLACES,
+            job::REQUESTS,
+        ]
+        .map(|limit| limit as usize);
+        assert_eq!(job::BYTES, limits::JOB_BYTES);
+        assert_eq!(faces, limits::FACES);
+        assert_eq!(overrides, limits::OVERRIDES);
+        assert_eq!(families, limits::FAMILIES);
+        assert_eq!(places, limits::FAMILY_FACES);
+        assert_eq!(requests, limits::REQUESTS);
+        assert_eq!(offers::OUTPUT, limits::OFFER_BYTES);
     }
 }

@@ -1,16 +1,20 @@
-//! What the original says; nothing where it is not compiled.
+//! What the original says; nothing where it is not compiled, so that nothing
+//! is taken for its word.
 
 use crate::job::Lists;
 
 /// Whether the original is here.
 pub const HERE: bool = cfg!(feature = "original");
 
+/// The bytes of a family and its line, with synthesis on and then off.
+pub type Family = [(Vec<u8>, String); 2];
+
 #[cfg(feature = "original")]
 mod here {
-    use jobs::families::Case;
-    use reference::{describe, families, fonts, offers::Harness};
+    use jobs::{families::Case, overrides};
+    use reference::{describe, families, offers::Harness};
 
-    use super::Lists;
+    use super::{Family, Lists};
 
     #[derive(Default)]
     pub struct Original(Harness);
@@ -27,14 +31,11 @@ mod here {
         reference::offers::fonts_agree(job, number, position)
     }
 
-    /// The bytes of a case and its line, with synthesis on and then off.
-    pub fn family(case: &Case) -> Option<[(Vec<u8>, String); 2]> {
+    pub fn family(case: &Case) -> Option<Family> {
         let mut case = families::Case::new(case);
         Some([true, false].map(|synthesis| {
             case.synthesis = synthesis;
-            let mut bytes = Vec::new();
-            families::put_case(&mut bytes, &case);
-            (bytes, families::line(&case))
+            families::answer(&case)
         }))
     }
 
@@ -43,18 +44,17 @@ mod here {
         Some(describe::line(bytes))
     }
 
-    /// The fonts made for a purpose.
-    pub fn fonts(seed: u64) -> Vec<Vec<u8>> {
-        let list = fonts::list(seed).fonts;
-        list.into_iter().map(|(_, bytes)| bytes).collect()
+    /// The line of a face by value.
+    pub fn face(case: &overrides::Case) -> Option<String> {
+        reference::overrides::line(case)
     }
 }
 
 #[cfg(not(feature = "original"))]
 mod here {
-    use jobs::families::Case;
+    use jobs::{families::Case, overrides};
 
-    use super::Lists;
+    use super::{Family, Lists};
 
     #[derive(Default)]
     pub struct Original(());
@@ -69,7 +69,7 @@ mod here {
         Ok(())
     }
 
-    pub fn family(_case: &Case) -> Option<[(Vec<u8>, String); 2]> {
+    pub fn family(_case: &Case) -> Option<Family> {
         None
     }
 
@@ -77,9 +77,9 @@ mod here {
         None
     }
 
-    pub fn fonts(_seed: u64) -> Vec<Vec<u8>> {
-        Vec::new()
+    pub fn face(_case: &overrides::Case) -> Option<String> {
+        None
     }
 }
 
-pub use here::{Original, family, font, fonts, fonts_agree};
+pub use here::{Original, face, family, font, fonts_agree};

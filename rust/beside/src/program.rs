@@ -30,11 +30,24 @@ pub const FONT_CASES: Program = Program {
     run,
 };
 
+/// It reads nothing: its cases are its own.
+pub const OVERRIDE_CASES: Program = Program {
+    name: "override_cases",
+    most: 0,
+    run,
+};
+
 impl Program {
     pub fn lines(&self, list: &[u8]) -> Result<Vec<String>, String> {
         assert!(list.len() <= self.most, "the list is too long");
         let text = (self.run)(self, list)?;
         Ok(text.lines().map(str::to_string).collect())
+    }
+
+    /// What it prints for a list, or why it prints nothing.
+    pub fn printed(&self, list: &[u8]) -> String {
+        self.lines(list)
+            .map_or_else(|error| error, |lines| lines.join("\n  "))
     }
 }
 

@@ -1,123 +1,186 @@
-//! Smaller inputs that still differ.
+//! Smaller inputs that still differ. One is made at a time, and fonts are
+//! borrowed from the job where its parts are dropped, so that no more is held
+//! than the least input and the one that is tried.
 
-use std::panic;
+use std::{ops::Range, panic};
 
 use jobs::{
     families,
     layout::{self, Job},
 };
 
-/// Most inputs that are tried for one difference.
-const TRIES: usize = 4000;
+/// How much is tried for one difference.
+struct Budget {
+    tries: usize,
+    /// Bytes of all that is tried.
+    bytes: usize,
+}
 
-/// Drops parts while the difference stays. `smaller` gives the next inputs to
-/// try; the first that differs is gone on with.
-fn descend<T>(
-    start: T,
-    tries: &mut usize,
-    smaller: impl Fn(&T) -> Vec<T>,
-    differs: &mut impl FnMut(&T) -> bool,
-) -> T {
-    let mut least = start;
-    'again: loop {
-        for next in smaller(&least) {
-            if *tries == 0 {
-                return least;
-            }
-            *tries -= 1;
-            if differs(&next) {
-                least = next;
-                continue 'again;
-            }
+impl Budget {
+    const fn new(tries: usize) -> Self {
+        Self {
+            tries,
+            bytes: 1 << 32,
         }
-        return least;
+    }
+
+    /// Whether an input of so many bytes may still be tried.
+    fn spend(&mut self, bytes: usize) -> bool {
+        let enough = self.tries > 0 && self.bytes >= bytes;
+        if enough {
+            self.tries -= 1;
+            self.bytes -= bytes;
+        }
+        enough
     }
 }
 
-/// The list without each half, quarter, and so on down to each item.
-fn without_some<T: Clone>(list: &[T]) -> Vec<Vec<T>> {
-    let mut out = Vec::new();
-    let mut size = list.len().div_ceil(2);
-    while size > 0 {
-        for start in (0..list.len()).step_by(size) {
-            let end = (start + size).min(list.len());
-            out.push([&list[..start], &list[end..]].concat());
-        }
-        if size == 1 {
-            break;
-        }
-        size = size.div_ceil(2);
+/// What is said beside a difference: nothing where the least input differs
+/// when it is run by itself.
+pub const fn alone(differs: bool) -> &'static str {
+    if differs {
+        ""
+    } else {
+        " (in its list; run alone it has none)"
     }
-    out
+}
+
+/// Most inputs that are tried in the parts of a job, and in its bytes.
+const TRIES: usize = 4000;
+
+/// An input that can be made smaller.
+trait Input: Sized {
+    fn size(&self) -> usize;
+
+    /// The next ones to try, each made when it is asked for.
+    fn smaller(&self) -> Box<dyn Iterator<Item = Self> + '_>;
+}
+
+/// Drops parts while the difference stays: the first smaller input that
+/// differs is gone on with.
+fn descend<T: Input>(start: T, mut budget: Budget, differs: &mut dyn FnMut(&T) -> bool) -> T {
+    let mut least = start;
+    loop {
+        let mut tried = least.smaller();
+        let next = loop {
+            match tried.next() {
+                Some(next) if !budget.spend(next.size()) => break None,
+                Some(next) if differs(&next) => break Some(next),
+                Some(_) => {}
+                None => break None,
+            }
+        };
+        drop(tried);
+        match next {
+            Some(next) => least = next,
+            None => return least,
+        }
+    }
+}
+
+/// Half of a length, a quarter, and so on down to 1.
+fn sizes(length: usize) -> impl Iterator<Item = usize> {
+    let first = (length > 0).then(|| length.div_ceil(2));
+    std::iter::successors(first, |size| (*size > 1).then(|| size.div_ceil(2)))
+}
+
+/// What may be cut out of a list: each half, quarter, and so on down to each item.
+fn cuts(length: usize) -> impl Iterator<Item = Range<usize>> {
+    sizes(length).flat_map(move |size| {
+        let starts = (0..length).step_by(size);
+        starts.map(move |start| start..(start + size).min(length))
+    })
+}
+
+impl Input for Vec<u8> {
+    fn size(&self) -> usize {
+        self.len()
+    }
+
+    fn smaller(&self) -> Box<dyn Iterator<Item = Self> + '_> {
+        Box::new(cuts(self.len()).map(|cut| [&self[..cut.start], &self[cut.end..]].concat()))
+    }
 }
 
 /// A smaller job that differs still, in parts if it has them, then in bytes.
 pub fn job(bytes: &[u8], differs: impl Fn(&[u8]) -> bool) -> Vec<u8> {
     let hook = panic::take_hook();
     panic::set_hook(Box::new(|_| {}));
-    let mut tries = TRIES;
-    let mut least = bytes.to_vec();
-    let parts = panic::catch_unwind(|| layout::parts(bytes));
-    if let Ok(job) = parts
-        && layout::write(&job).bytes == bytes
-    {
-        let mut differs = |job: &Job| differs(&layout::write(job).bytes);
-        least = layout::write(&descend(job, &mut tries, smaller_jobs, &mut differs)).bytes;
-    }
-    let mut tries = TRIES;
-    let mut differs = |bytes: &Vec<u8>| differs(bytes);
-    let least = descend(
-        least,
-        &mut tries,
-        |bytes: &Vec<u8>| without_some(bytes),
-        &mut differs,
-    );
+    let least = match layout::parts(bytes) {
+        Some(job) if layout::write(&job).bytes == bytes => {
+            let mut differs = |job: &Job<&[u8]>| differs(&layout::write(job).bytes);
+            layout::write(&descend(job, Budget::new(TRIES), &mut differs)).bytes
+        }
+        _ => bytes.to_vec(),
+    };
+    let least = descend(least, Budget::new(TRIES), &mut |bytes: &Vec<u8>| {
+        differs(bytes)
+    });
     panic::set_hook(hook);
     least
 }
 
-fn smaller_jobs(job: &Job) -> Vec<Job> {
-    let mut out = Vec::new();
-    let mut add = |change: &dyn Fn(&mut Job)| {
-        let mut next = job.clone();
-        change(&mut next);
-        out.push(next);
-    };
-    for requests in without_some(&job.requests) {
-        add(&|next| next.requests = requests.clone());
+/// A copy with a change; of the fonts only the places are copied.
+fn changed<T: Clone>(input: &T, change: impl FnOnce(&mut T)) -> T {
+    let mut next = input.clone();
+    change(&mut next);
+    next
+}
+
+impl Input for Job<&[u8]> {
+    fn size(&self) -> usize {
+        self.faces.iter().map(|face| face.font.len()).sum()
     }
-    for overrides in without_some(&job.overrides) {
-        add(&|next| next.overrides = overrides.clone());
+
+    fn smaller(&self) -> Box<dyn Iterator<Item = Self> + '_> {
+        let requests = cuts(self.requests.len())
+            .map(|cut| changed(self, |next| drop(next.requests.drain(cut))));
+        let overrides = cuts(self.overrides.len())
+            .map(|cut| changed(self, |next| drop(next.overrides.drain(cut))));
+        let families = cuts(self.families.len())
+            .map(|cut| changed(self, |next| drop(next.families.drain(cut))));
+        let faces = (0..self.faces.len())
+            .rev()
+            .map(|face| changed(self, |next| drop_face(next, face as u16)));
+        let whole = requests.chain(overrides).chain(families).chain(faces);
+        Box::new(whole.chain(shorter_lists(self)).chain(shorter_fonts(self)))
     }
-    for families in without_some(&job.families) {
-        add(&|next| next.families = families.clone());
-    }
-    for face in (0..job.faces.len() as u16).rev() {
-        add(&|next| drop_face(next, face));
-    }
-    for (i, places) in job.families.iter().enumerate() {
-        for places in without_some(places) {
-            add(&|next| next.families[i] = places.clone());
-        }
-    }
-    for (i, request) in job.requests.iter().enumerate() {
-        for families in without_some(&request.families) {
-            add(&|next| next.requests[i].families = families.clone());
-        }
-        for fallbacks in without_some(&request.fallbacks) {
-            add(&|next| next.requests[i].fallbacks = fallbacks.clone());
-        }
-    }
-    for (i, given) in job.overrides.iter().enumerate() {
-        for pairs in without_some(&given.pairs) {
-            add(&|next| next.overrides[i].pairs = pairs.clone());
-        }
-    }
-    out
+}
+
+/// The lists inside of families, requests and overrides.
+fn shorter_lists<'a, 'f>(job: &'a Job<&'f [u8]>) -> impl Iterator<Item = Job<&'f [u8]>> + 'a {
+    let places = (0..job.families.len()).flat_map(move |i| {
+        cuts(job.families[i].len())
+            .map(move |cut| changed(job, |next| drop(next.families[i].drain(cut))))
+    });
+    let families = (0..job.requests.len()).flat_map(move |i| {
+        cuts(job.requests[i].families.len())
+            .map(move |cut| changed(job, |next| drop(next.requests[i].families.drain(cut))))
+    });
+    let fallbacks = (0..job.requests.len()).flat_map(move |i| {
+        cuts(job.requests[i].fallbacks.len())
+            .map(move |cut| changed(job, |next| drop(next.requests[i].fallbacks.drain(cut))))
+    });
+    let pairs = (0..job.overrides.len()).flat_map(move |i| {
+        cuts(job.overrides[i].pairs.len())
+            .map(move |cut| changed(job, |next| drop(next.overrides[i].pairs.drain(cut))))
+    });
+    places.chain(families).chain(fallbacks).chain(pairs)
+}
+
+/// Fonts without their last half, quarter, and so on down to the last byte.
+fn shorter_fonts<'a, 'f>(job: &'a Job<&'f [u8]>) -> impl Iterator<Item = Job<&'f [u8]>> + 'a {
+    (0..job.faces.len()).flat_map(move |i| {
+        let font = job.faces[i].font;
+        sizes(font.len()).map(move |size| {
+            let shorter = &font[..font.len() - size];
+            changed(job, |next| next.faces[i].font = shorter)
+        })
+    })
 }
 
 /// Takes a face away, with its overrides and places.
-fn drop_face(job: &mut Job, face: u16) {
+fn drop_face<F>(job: &mut Job<F>, face: u16) {
     let renumber = |number: &mut u16| {
         if *number > face {
             *number -= 1;
@@ -139,61 +202,65 @@ pub fn family(
     case: &families::Case,
     mut differs: impl FnMut(&families::Case) -> bool,
 ) -> families::Case {
-    let mut tries = TRIES / 4;
-    descend(case.clone(), &mut tries, smaller_families, &mut differs)
+    descend(case.clone(), Budget::new(TRIES / 4), &mut differs)
 }
 
-fn smaller_families(case: &families::Case) -> Vec<families::Case> {
-    let mut out = Vec::new();
-    for faces in without_some(&case.faces) {
-        if !faces.is_empty() {
-            let mut next = case.clone();
-            next.faces = faces;
-            out.push(next);
-        }
+impl Input for families::Case {
+    /// Small whatever it holds.
+    fn size(&self) -> usize {
+        self.faces.len()
     }
-    for (i, face) in case.faces.iter().enumerate() {
-        for axes in without_some(&face.axes) {
-            let mut next = case.clone();
-            next.faces[i].axes = axes;
-            out.push(next);
-        }
+
+    /// A family has at least one face.
+    fn smaller(&self) -> Box<dyn Iterator<Item = Self> + '_> {
+        let faces = cuts(self.faces.len())
+            .filter(|cut| cut.len() < self.faces.len())
+            .map(|cut| changed(self, |next| drop(next.faces.drain(cut))));
+        let axes = (0..self.faces.len()).flat_map(move |i| {
+            cuts(self.faces[i].axes.len())
+                .map(move |cut| changed(self, |next| drop(next.faces[i].axes.drain(cut))))
+        });
+        Box::new(faces.chain(axes))
     }
-    out
+}
+
+/// The bytes of a font: what is not dropped may become zero.
+#[derive(Clone)]
+struct FontBytes(Vec<u8>);
+
+impl Input for FontBytes {
+    fn size(&self) -> usize {
+        self.0.len()
+    }
+
+    fn smaller(&self) -> Box<dyn Iterator<Item = Self> + '_> {
+        let set = (0..self.0.len()).filter(|at| self.0[*at] != 0);
+        let zeros = set.map(|at| changed(self, |next| next.0[at] = 0));
+        Box::new(self.0.smaller().map(Self).chain(zeros))
+    }
 }
 
 /// A shorter font that differs still, or one with more zeros.
 pub fn font(bytes: &[u8], mut differs: impl FnMut(&[u8]) -> bool) -> Vec<u8> {
-    let mut tries = TRIES / 2;
-    descend(
-        bytes.to_vec(),
-        &mut tries,
-        |bytes: &Vec<u8>| [without_some(bytes), with_a_zero(bytes)].concat(),
-        &mut |bytes: &Vec<u8>| differs(bytes),
-    )
-}
-
-fn with_a_zero(bytes: &[u8]) -> Vec<Vec<u8>> {
-    let set = (0..bytes.len()).filter(|at| bytes[*at] != 0);
-    set.map(|at| {
-        let mut next = bytes.to_vec();
-        next[at] = 0;
-        next
-    })
-    .collect()
+    let start = FontBytes(bytes.to_vec());
+    let mut differs = |font: &FontBytes| differs(&font.0);
+    descend(start, Budget::new(TRIES / 2), &mut differs).0
 }
 
 #[cfg(test)]
 mod tests {
+    use std::{cell::Cell, rc::Rc};
+
     use super::*;
     use jobs::{generate, random::Random};
 
     #[test]
     fn halves_and_items() {
-        let lists = without_some(&[1, 2, 3]);
-        assert_eq!(lists[0], [3]);
-        assert!(lists.contains(&vec![1, 2]) && lists.contains(&vec![2, 3]));
-        assert!(without_some::<u8>(&[]).is_empty());
+        let cuts_of = |length| -> Vec<Range<usize>> { cuts(length).collect() };
+        assert_eq!(cuts_of(3), [0..2, 2..3, 0..1, 1..2, 2..3]);
+        assert_eq!(cuts_of(2), [0..1, 1..2]);
+        assert_eq!(cuts_of(1).len(), 1);
+        assert_eq!(cuts_of(0), []);
     }
 
     /// What makes the difference stays, the rest goes.
@@ -216,6 +283,76 @@ mod tests {
             let count = job.faces.len() as u16;
             assert!(job.families.iter().flatten().all(|place| *place < count));
             assert!(job.overrides.iter().all(|given| given.face < count));
+        }
+    }
+
+    /// A list of the most items that were alive at once.
+    struct Counted {
+        items: usize,
+        alive: Rc<Cell<(usize, usize)>>,
+    }
+
+    impl Counted {
+        fn new(items: usize, alive: &Rc<Cell<(usize, usize)>>) -> Self {
+            let (now, most) = alive.get();
+            alive.set((now + 1, most.max(now + 1)));
+            let alive = Rc::clone(alive);
+            Self { items, alive }
+        }
+    }
+
+    impl Drop for Counted {
+        fn drop(&mut self) {
+            let (now, most) = self.alive.get();
+            self.alive.set((now - 1, most));
+        }
+    }
+
+    impl Input for Counted {
+        fn size(&self) -> usize {
+            self.items
+        }
+
+        fn smaller(&self) -> Box<dyn Iterator<Item = Self> + '_> {
+            let items = cuts(self.items).map(|cut| self.items - cut.len());
+            Box::new(items.map(|items| Self::new(items, &self.alive)))
+        }
+    }
+
+    /// The least input and the one that is tried: never a third.
+    #[test]
+    fn two_are_alive() {
+        let alive = Rc::new(Cell::new((0, 0)));
+        let start = Counted::new(1000, &alive);
+        let mut tries = 0;
+        let least = descend(start, Budget::new(TRIES), &mut |next| {
+            tries += 1;
+            next.items >= 77
+        });
+        assert_eq!(least.items, 77);
+        assert!(tries > 100, "{tries}");
+        assert_eq!(alive.get(), (1, 2));
+    }
+
+    /// Neither inputs nor bytes are tried without an end.
+    #[test]
+    fn budgets_end() {
+        for (budget, most) in [
+            (Budget::new(10), 10),
+            (
+                Budget {
+                    tries: 1000,
+                    bytes: 5000,
+                },
+                8,
+            ),
+        ] {
+            let mut tries = 0;
+            let least = descend(vec![0; 1000], budget, &mut |_| {
+                tries += 1;
+                false
+            });
+            assert_eq!((least.len(), tries <= most, tries > 5), (1000, true, true));
         }
     }
 }

@@ -1,5 +1,16 @@
 //! Small font files and tables, byte by byte.
 
+use std::fmt::Write as _;
+
+/// Two hexadecimal digits for each byte.
+pub fn hex(bytes: &[u8]) -> String {
+    let mut text = String::with_capacity(2 * bytes.len());
+    for byte in bytes {
+        let _ = write!(text, "{byte:02x}");
+    }
+    text
+}
+
 /// Bytes that no field should be mistaken for: none of them repeats its neighbour.
 pub fn filler(length: usize, salt: u8) -> Vec<u8> {
     (0..length)

@@ -1,5 +1,7 @@
 //! Ways to damage a job, with what each has to be refused for.
 
+use plain::job::{FACES, FAMILIES};
+
 use crate::{
     fonts,
     layout::{Field, Kind, Written},
@@ -26,6 +28,15 @@ impl Expected {
             Unknown => true,
             Accepted => number == 0 || font,
             Refused(n, at) => (number, position) == (n, at) || (font && position < at),
+        }
+    }
+
+    /// Whether an answer is the very one that is known.
+    pub fn tells(self, number: u32, position: usize) -> bool {
+        match self {
+            Unknown => false,
+            Accepted => number == 0,
+            Refused(n, at) => (number, position) == (n, at),
         }
     }
 }
@@ -78,121 +89,98 @@ const NOT_ZERO: [u32; 7] = [
 
 /// Every way that is kept for a field; none for a font file.
 pub fn ways(written: &Written, field: Field) -> Vec<Way> {
+    let held = &written.bytes[field.at..field.at + field.size];
     let mut out = Vec::new();
-    let mut add = |value: u32, expected: Expected| {
-        let bytes = value.to_be_bytes()[4 - field.size..].to_vec();
-        if bytes != written.bytes[field.at..field.at + field.size] {
-            out.push(Way {
-                field,
-                bytes,
-                expected,
-            });
-        }
-    };
-    let refused = |number: u32| Refused(number, field.at);
-    let present = written.bytes[field.at..field.at + field.size.min(4)]
-        .iter()
-        .fold(0u32, |value, byte| value << 8 | u32::from(*byte));
-    match field.kind {
-        Kind::Count(limit) => {
-            let limit = u32::from(limit);
-            for value in [limit + 1, limit + 2, limit | 0x8000, 0xffff] {
-                add(value, refused(19));
-            }
-            // More or fewer entries than there are.
-            for value in [present.saturating_sub(1), present + 1, 0, limit] {
-                if value <= limit {
-                    add(value, Unknown);
-                }
-            }
-        }
-        Kind::ByteCount => {
-            for value in [0, 1, present.saturating_sub(1), (present + 1).min(255), 255] {
-                add(value, Unknown);
-            }
-        }
-        Kind::Held => {
-            for value in [2, 3, 0x80, 0x81, 0xff] {
-                add(value, refused(20));
-            }
-            add(1 - present, Accepted);
-        }
-        Kind::Length => {
-            let left = (written.bytes.len() - field.at - 4) as u32;
-            for value in [left + 1, 0x7fff_ffff, 0x8000_0000, 0xffff_ffff] {
-                add(value, refused(18));
-            }
-            // A file without a whole header has a bad start.
-            for value in [0, 11] {
-                if value <= left {
-                    add(value, refused(21));
-                }
-            }
-            for value in [present.wrapping_sub(1), present + 1, left] {
-                if value <= left {
-                    add(value, Unknown);
-                }
-            }
-        }
-        Kind::File => {}
-        Kind::FaceNumber(faces) => {
-            let faces = u32::from(faces);
-            for value in [faces, faces + 1, 0x8000, 0xffff] {
-                add(value, refused(24));
-            }
-            for value in [0, faces - 1] {
-                add(value, Accepted);
-            }
-        }
-        Kind::Mask => {
-            for value in [8, 9, 0x0f, 0x10, 0x40, 0x80, 0xff, present | 8] {
-                add(value, refused(25));
-            }
-            for value in 0..8 {
-                add(value, Unknown);
-            }
-        }
-        Kind::StyleKind => {
-            for value in [4, 5, 7, 0x80, 0x83, 0xff] {
-                add(value, refused(25));
-            }
-            for value in 0..4 {
-                add(value, Unknown);
-            }
-        }
-        Kind::SpareKind => {
-            for value in [1, 2, 3, 4, 0x80, 0xff] {
-                add(value, refused(25));
-            }
-        }
-        Kind::Ratio => {
-            for value in NOT_FINITE.into_iter().chain(NO_RATIO) {
-                add(value, refused(26));
-            }
-            for value in RATIO {
-                add(value, Accepted);
-            }
-        }
-        Kind::Number => {
-            for value in NOT_FINITE {
-                add(value, refused(26));
-            }
-            for value in FINITE {
-                add(value, Accepted);
-            }
-        }
-        Kind::Spare => {
-            for value in NOT_ZERO {
-                add(value, refused(25));
-            }
-        }
-        Kind::Free => {
-            for value in [0, 1, 0xffff, 0xffff_ffff] {
-                add(value, Accepted);
+    for (expected, values) in values(written, field) {
+        for value in values {
+            let bytes = value.to_be_bytes()[4 - field.size..].to_vec();
+            if bytes != held {
+                out.push(Way {
+                    field,
+                    bytes,
+                    expected,
+                });
             }
         }
     }
     out
+}
+
+/// Values for a field, by what is known of a job with them.
+fn values(written: &Written, field: Field) -> Vec<(Expected, Vec<u32>)> {
+    let refused = |number: u32, values: &[u32]| (Refused(number, field.at), values.to_vec());
+    let accepted = |values: &[u32]| (Accepted, values.to_vec());
+    let unknown = |values: &[u32]| (Unknown, values.to_vec());
+    let present = present(written, field);
+    let less = present.saturating_sub(1);
+    match field.kind {
+        Kind::Count(limit) => counts(field, limit, present),
+        Kind::ByteCount => vec![unknown(&[0, 1, less, (present + 1).min(255), 255])],
+        Kind::Held => vec![
+            refused(20, &[2, 3, 0x80, 0x81, 0xff]),
+            accepted(&[1 - present]),
+        ],
+        Kind::Length => lengths(written, field, present),
+        Kind::File => vec![],
+        Kind::FaceNumber(faces) => {
+            let faces = u32::from(faces);
+            let over = [faces, faces + 1, 0x8000, 0xffff];
+            vec![refused(24, &over), accepted(&[0, faces - 1])]
+        }
+        Kind::Mask => {
+            let over = [8, 9, 0x0f, 0x10, 0x40, 0x80, 0xff, present | 8];
+            vec![refused(25, &over), unknown(&[0, 1, 2, 3, 4, 5, 6, 7])]
+        }
+        Kind::StyleKind => {
+            let over = [4, 5, 7, 0x80, 0x83, 0xff];
+            vec![refused(25, &over), unknown(&[0, 1, 2, 3])]
+        }
+        Kind::SpareKind => vec![refused(25, &[1, 2, 3, 4, 0x80, 0xff])],
+        Kind::Ratio => vec![
+            refused(26, &NOT_FINITE),
+            refused(26, &NO_RATIO),
+            accepted(&RATIO),
+        ],
+        Kind::Number => vec![refused(26, &NOT_FINITE), accepted(&FINITE)],
+        Kind::Spare => vec![refused(25, &NOT_ZERO)],
+        Kind::Free => vec![accepted(&[0, 1, 0xffff, 0xffff_ffff])],
+    }
+}
+
+/// What stands in a field, its first four bytes.
+fn present(written: &Written, field: Field) -> u32 {
+    written.bytes[field.at..field.at + field.size.min(4)]
+        .iter()
+        .fold(0, |value, byte| value << 8 | u32::from(*byte))
+}
+
+/// Counts over the limit, and of more or fewer entries than there are.
+fn counts(field: Field, limit: u32, present: u32) -> Vec<(Expected, Vec<u32>)> {
+    let over = vec![limit + 1, limit + 2, limit | 0x8000, 0xffff];
+    let mut others = vec![present.saturating_sub(1), present + 1, 0, limit];
+    others.retain(|value| *value <= limit);
+    vec![(Refused(19, field.at), over), (Unknown, others)]
+}
+
+/// Lengths of a font: past the job, too short for a header, others.
+fn lengths(written: &Written, field: Field, present: u32) -> Vec<(Expected, Vec<u32>)> {
+    let left = (written.bytes.len() - field.at - 4) as u32;
+    let within = |values: &[u32]| -> Vec<u32> {
+        let values = values.iter().copied();
+        values.filter(|value| *value <= left).collect()
+    };
+    vec![
+        (
+            Refused(18, field.at),
+            vec![left + 1, 0x7fff_ffff, 0x8000_0000, 0xffff_ffff],
+        ),
+        // A file without a whole header has a bad start.
+        (Refused(21, field.at), within(&[0, 11])),
+        (
+            Unknown,
+            within(&[present.wrapping_sub(1), present + 1, left]),
+        ),
+    ]
 }
 
 /// The bytes with every way done, no two on one field, and what is known of
@@ -247,8 +235,8 @@ fn random_way(r: &mut Random, written: &Written) -> Option<Way> {
         8..=9 => Kind::Number,
         10 => Kind::Length,
         11 => Kind::FaceNumber(u16::from_be_bytes([written.bytes[0], written.bytes[1]])),
-        12 => Kind::Count(256),
-        13 => Kind::Count(64),
+        12 => Kind::Count(FACES),
+        13 => Kind::Count(FAMILIES),
         _ => first.kind,
     };
     let fields: Vec<Field> = written
@@ -292,52 +280,56 @@ pub fn random(r: &mut Random, written: &Written) -> (Vec<u8>, Expected) {
             let more: Vec<u8> = (0..r.pick(&[1, 1, 2, 8, 40])).map(|_| r.byte()).collect();
             with_more(written, &more)
         }
-        4..=5 => {
-            let mut bytes = written.bytes.clone();
-            let at = r.below(bytes.len());
-            bytes[at] = match r.below(3) {
-                0 => bytes[at] ^ (1 << r.below(8)),
-                1 => bytes[at].wrapping_add(1),
-                _ => r.byte(),
-            };
-            (bytes, Unknown)
-        }
+        4..=5 => changed_byte(r, written),
         6..=7 => font(r, written),
-        8..=9 => {
-            let mut ways: Vec<Way> = Vec::new();
-            for _ in 0..r.within(2, 3) {
-                if let Some(way) = random_way(r, written)
-                    && ways.iter().all(|other| other.field.at != way.field.at)
-                {
-                    ways.push(way);
-                }
-            }
-            let (bytes, expected) = with_ways(written, &ways);
-            if r.chance(1, 2) {
-                return (bytes, expected);
-            }
-            // And a cut, before or after the damaged fields.
-            let damaged = Written {
-                bytes,
-                fields: written.fields.clone(),
-            };
-            let length = random_length(r, &damaged);
-            let (bytes, cut) = cut(&damaged, length);
-            let expected = match (expected, cut) {
-                // A length that lies past the end does so still.
-                (Refused(number, at), Refused(_, end)) if at < end => Refused(number, at),
-                // A file that is told to be short may lie before the cut.
-                (Refused(21, at), Refused(_, end)) if at == end => Unknown,
-                (Unknown, _) => Unknown,
-                (_, cut) => cut,
-            };
-            (bytes, expected)
-        }
+        8..=9 => several(r, written),
         _ => {
             let ways: Vec<Way> = random_way(r, written).into_iter().collect();
             with_ways(written, &ways)
         }
     }
+}
+
+fn changed_byte(r: &mut Random, written: &Written) -> (Vec<u8>, Expected) {
+    let mut bytes = written.bytes.clone();
+    let at = r.below(bytes.len());
+    bytes[at] = match r.below(3) {
+        0 => bytes[at] ^ (1 << r.below(8)),
+        1 => bytes[at].wrapping_add(1),
+        _ => r.byte(),
+    };
+    (bytes, Unknown)
+}
+
+/// Two or three ways, and in half of the jobs a cut, before or after their fields.
+fn several(r: &mut Random, written: &Written) -> (Vec<u8>, Expected) {
+    let mut ways: Vec<Way> = Vec::new();
+    for _ in 0..r.within(2, 3) {
+        if let Some(way) = random_way(r, written)
+            && ways.iter().all(|other| other.field.at != way.field.at)
+        {
+            ways.push(way);
+        }
+    }
+    let (bytes, expected) = with_ways(written, &ways);
+    if r.chance(1, 2) {
+        return (bytes, expected);
+    }
+    let damaged = Written {
+        bytes,
+        fields: written.fields.clone(),
+    };
+    let length = random_length(r, &damaged);
+    let (bytes, cut) = cut(&damaged, length);
+    let expected = match (expected, cut) {
+        // A length that lies past the end does so still.
+        (Refused(number, at), Refused(_, end)) if at < end => Refused(number, at),
+        // A file that is told to be short may lie before the cut.
+        (Refused(21, at), Refused(_, end)) if at == end => Unknown,
+        (Unknown, _) => Unknown,
+        (_, cut) => cut,
+    };
+    (bytes, expected)
 }
 
 /// Damages one font file, its length field kept true.

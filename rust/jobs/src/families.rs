@@ -4,20 +4,10 @@
 use crate::{
     bytes::{FixedAxis, START, font, fvar, plain_cmap},
     layout::{Override, Style},
-    numbers::{BANDS, angle, nearby, ratio, some, weight},
+    numbers::{BANDS, TAGS, nearby, some, style, weight},
+    pools::{Pools, near},
     random::Random,
 };
-
-const NORMAL: Style = Style { kind: 0, angle: 0 };
-const ITALIC: Style = Style { kind: 1, angle: 0 };
-const UNSTATED: Style = Style { kind: 2, angle: 0 };
-
-const fn stated(angle: f32) -> Style {
-    Style {
-        kind: 3,
-        angle: angle.to_bits(),
-    }
-}
 
 /// An axis as `fvar` gives it, and a default that an override sets. An
 /// override reaches only the first axis with a tag.
@@ -113,18 +103,6 @@ fn put_zeros(r: &mut Random, case: &mut Case, (weights, ratios): (bool, bool)) {
     }
 }
 
-fn case(synthesis: bool, ratio: f32, style: Style, weight: f32, faces: &[FacePlan]) -> Case {
-    Case {
-        synthesis,
-        request: Asked {
-            ratio,
-            style,
-            weight,
-        },
-        faces: faces.to_vec(),
-    }
-}
-
 fn plain(ratio: f32, style: Style, weight: f32) -> FacePlan {
     FacePlan {
         ratio,
@@ -150,178 +128,154 @@ fn slanted(style: Style) -> FacePlan {
     }
 }
 
-/// Section 7 of 01, each with synthesis on and off. Its 12 is among the fonts.
+fn weights(list: &[f32]) -> Vec<FacePlan> {
+    list.iter().map(|w| plain(1.0, Style::NORMAL, *w)).collect()
+}
+
+fn styles(list: &[Style]) -> Vec<FacePlan> {
+    list.iter().map(|s| plain(1.0, *s, 400.0)).collect()
+}
+
+/// Section 7 of docs/GUIDE.md, each with synthesis on and off. Its 12 is among
+/// the fonts.
 pub fn faces_to_try() -> Vec<Case> {
-    let weights =
-        |list: &[f32]| -> Vec<FacePlan> { list.iter().map(|w| plain(1.0, NORMAL, *w)).collect() };
-    let styles =
-        |list: &[Style]| -> Vec<FacePlan> { list.iter().map(|s| plain(1.0, *s, 400.0)).collect() };
-    let widths = [plain(0.75, NORMAL, 400.0), plain(1.25, NORMAL, 400.0)];
-    let mut out = Vec::new();
-    for synthesis in [true, false] {
-        let mut add = |ratio, style, weight, faces: &[FacePlan]| {
-            out.push(case(synthesis, ratio, style, weight, faces));
-        };
-        add(1.0, NORMAL, 450.0, &weights(&[300.0, 600.0]));
-        add(1.0, NORMAL, 450.0, &weights(&[400.0, 500.0]));
-        add(1.0, NORMAL, 400.0, &weights(&[350.0, 350.0]));
-        add(1.0, NORMAL, 550.0, &weights(&[600.0, 600.0]));
-        add(1.0, NORMAL, 400.0, &widths);
-        add(1.125, NORMAL, 400.0, &widths);
-        let fourteen = styles(&[UNSTATED, stated(14.0)]);
-        add(1.0, ITALIC, 400.0, &fourteen);
-        add(1.0, stated(20.0), 400.0, &fourteen);
-        let left = styles(&[stated(-10.0), stated(-20.0)]);
-        add(1.0, stated(-14.0), 400.0, &left);
-        add(1.0, stated(-13.5), 400.0, &left);
-        let normal = [plain(1.0, NORMAL, 400.0), slanted(NORMAL)];
-        add(1.0, stated(14.0), 400.0, &normal);
-        add(1.0, ITALIC, 400.0, &styles(&[NORMAL, stated(0.0)]));
-        add(1.0, NORMAL, 600.0, &weights(&[400.0]));
-        add(1.0, NORMAL, 601.0, &weights(&[400.0]));
-        for angle in [0.9, -14.9, 200.0, -200.0] {
-            add(1.0, stated(angle), 400.0, &styles(&[NORMAL]));
-        }
-        let upright = [plain(1.0, stated(0.0), 400.0), slanted(stated(0.0))];
-        add(1.0, stated(14.0), 400.0, &upright);
-    }
+    let with = |synthesis: bool| {
+        tries().into_iter().map(move |(request, faces)| Case {
+            synthesis,
+            request,
+            faces,
+        })
+    };
+    with(true).chain(with(false)).collect()
+}
+
+/// The requests and families of section 7, in its order.
+fn tries() -> Vec<(Asked, Vec<FacePlan>)> {
+    let asked = |ratio, style, weight| Asked {
+        ratio,
+        style,
+        weight,
+    };
+    let width = |ratio| asked(ratio, Style::NORMAL, 400.0);
+    let style = |style| asked(1.0, style, 400.0);
+    let oblique = |angle| style(Style::stated(angle));
+    let weight = |weight| asked(1.0, Style::NORMAL, weight);
+    let widths = [0.75, 1.25].map(|x| plain(x, Style::NORMAL, 400.0));
+    let fourteen = styles(&[Style::UNSTATED, Style::stated(14.0)]);
+    let left = styles(&[Style::stated(-10.0), Style::stated(-20.0)]);
+    let one_slanted = |style| vec![plain(1.0, style, 400.0), slanted(style)];
+    let mut out = vec![
+        (weight(450.0), weights(&[300.0, 600.0])),
+        (weight(450.0), weights(&[400.0, 500.0])),
+        (weight(400.0), weights(&[350.0, 350.0])),
+        (weight(550.0), weights(&[600.0, 600.0])),
+        (width(1.0), widths.to_vec()),
+        (width(1.125), widths.to_vec()),
+        (style(Style::ITALIC), fourteen.clone()),
+        (oblique(20.0), fourteen),
+        (oblique(-14.0), left.clone()),
+        (oblique(-13.5), left),
+        (oblique(14.0), one_slanted(Style::NORMAL)),
+        (
+            style(Style::ITALIC),
+            styles(&[Style::NORMAL, Style::stated(0.0)]),
+        ),
+        (weight(600.0), weights(&[400.0])),
+        (weight(601.0), weights(&[400.0])),
+    ];
+    let angles = [0.9, -14.9, 200.0, -200.0];
+    out.extend(angles.map(|angle| (oblique(angle), styles(&[Style::NORMAL]))));
+    out.push((oblique(14.0), one_slanted(Style::stated(0.0))));
     out
 }
 
-fn style(r: &mut Random) -> Style {
-    match r.below(8) {
-        0..=1 => NORMAL,
-        2 => ITALIC,
-        3 => UNSTATED,
-        _ => stated(angle(r)),
-    }
-}
-
-/// Values that the faces of one case share, so that ties are common.
-struct Pools {
-    ratios: Vec<f32>,
-    styles: Vec<Style>,
-    weights: Vec<f32>,
-    /// The request is mostly one for a slope.
-    sloping: bool,
-}
-
-fn pools(r: &mut Random) -> Pools {
-    let (ratios, styles, weights) = match r.below(5) {
-        0 => (1, 1, 6),
-        1 => (1, 6, 2),
-        2 => (5, 2, 2),
-        3 => (2, 4, 4),
-        _ => (3, 3, 3),
-    };
-    let mut pools = Pools {
-        ratios: some(r, 1, ratios, ratio),
-        styles: some(r, 1, styles, style),
-        weights: some(r, 1, weights, weight),
-        sloping: false,
-    };
-    // Ratios of one whole percent, unstated beside 14, both zeros.
-    if r.chance(1, 6) {
-        pools.ratios.extend([0.875, 0.87109375]);
-    }
-    if r.chance(1, 5) {
-        pools.styles.extend([UNSTATED, stated(14.0)]);
-    }
-    if r.chance(1, 8) {
-        let zeros = [stated(0.0), stated(-0.0)];
-        pools.styles.extend(zeros);
-    }
+/// The values of a case, and whether its request is mostly one for a slope.
+fn pools(r: &mut Random) -> (Pools, bool) {
+    let mut pools = Pools::draw(r, 3);
+    let mut sloping = false;
     // Several angles of one side or two, at one width.
     if r.chance(1, 3) {
         pools.styles = slopes(r);
         pools.ratios.truncate(1);
-        pools.sloping = true;
+        sloping = true;
     }
     // Nothing on the side of an oblique request: italic, normal, the rule of
     // the slant axis.
     else if r.chance(1, 3) {
         let side = r.pick(&[20.0, -20.0, 5.0, -5.0]);
         let others = [
-            NORMAL,
-            NORMAL,
-            ITALIC,
-            stated(0.0),
-            stated(-0.0),
-            stated(side),
-            stated(side + 1.0),
+            Style::NORMAL,
+            Style::NORMAL,
+            Style::ITALIC,
+            Style::stated(0.0),
+            Style::stated(-0.0),
+            Style::stated(side),
+            Style::stated(side + 1.0),
         ];
         pools.styles = some(r, 1, 3, |r| r.pick(&others));
-        pools.sloping = true;
+        sloping = true;
     }
-    pools
+    (pools, sloping)
 }
 
 fn slopes(r: &mut Random) -> Vec<Style> {
     let mut styles = Vec::new();
     for _ in 0..r.pick(&[1, 1, 2]) {
         let band = r.pick(&BANDS);
-        styles.extend(some(r, 2, 4, |r| stated(r.pick(band))));
+        styles.extend(some(r, 2, 4, |r| Style::stated(r.pick(band))));
         if band.contains(&14.0) {
-            styles.push(UNSTATED);
+            styles.push(Style::UNSTATED);
         }
     }
     if r.chance(1, 4) {
-        styles.push(r.pick(&[NORMAL, ITALIC]));
+        styles.push(r.pick(&[Style::NORMAL, Style::ITALIC]));
     }
     styles
 }
 
 /// Requests between the angles of the bands, and at their ends.
 const SLOPES: [Style; 17] = [
-    ITALIC,
-    ITALIC,
-    UNSTATED,
-    stated(0.0),
-    stated(-0.0),
-    stated(4.0),
-    stated(-4.0),
-    stated(11.0),
-    stated(-11.0),
-    stated(13.999),
-    stated(-13.999),
-    stated(14.0),
-    stated(-14.0),
-    stated(16.0),
-    stated(-16.0),
-    stated(100.0),
-    stated(-100.0),
+    Style::ITALIC,
+    Style::ITALIC,
+    Style::UNSTATED,
+    Style::stated(0.0),
+    Style::stated(-0.0),
+    Style::stated(4.0),
+    Style::stated(-4.0),
+    Style::stated(11.0),
+    Style::stated(-11.0),
+    Style::stated(13.999),
+    Style::stated(-13.999),
+    Style::stated(14.0),
+    Style::stated(-14.0),
+    Style::stated(16.0),
+    Style::stated(-16.0),
+    Style::stated(100.0),
+    Style::stated(-100.0),
 ];
 
-fn request(r: &mut Random, pools: &Pools) -> Asked {
-    let ratio = match r.below(4) {
-        0 => ratio(r),
-        1 => {
-            let near = r.pick(&pools.ratios);
-            nearby(r, near).clamp(-0.0, 16.0)
-        }
-        _ => r.pick(&pools.ratios),
-    };
+fn request(r: &mut Random, pools: &Pools, sloping: bool) -> Asked {
+    let ratio = pools.ratio(r);
     let style = match r.below(4) {
-        _ if pools.sloping && r.chance(2, 3) => r.pick(&SLOPES),
+        _ if sloping && r.chance(2, 3) => r.pick(&SLOPES),
         0 => r.pick(&pools.styles),
         1 => match r.pick(&pools.styles) {
-            Style { kind: 3, angle } => stated(nearby(r, f32::from_bits(angle))),
-            UNSTATED => stated(nearby(r, 14.0)),
-            _ => r.pick(&[NORMAL, ITALIC, UNSTATED, stated(14.0)]),
+            Style { kind: 3, angle } => Style::stated(nearby(r, f32::from_bits(angle))),
+            Style::UNSTATED => Style::stated(nearby(r, 14.0)),
+            _ => r.pick(&[
+                Style::NORMAL,
+                Style::ITALIC,
+                Style::UNSTATED,
+                Style::stated(14.0),
+            ]),
         },
         _ => style(r),
     };
     let weight = match r.below(6) {
         0 => r.pick(&pools.weights),
-        1 => {
-            let near = r.pick(&pools.weights);
-            nearby(r, near)
-        }
+        1 => near(r, &pools.weights),
         2 => nearby_sum(r, pools),
-        3 => {
-            let edge = r.pick(&[400.0, 450.0, 500.0]);
-            nearby(r, edge)
-        }
+        3 => near(r, &[400.0, 450.0, 500.0]),
         _ => weight(r),
     };
     Asked {
@@ -377,8 +331,18 @@ enum Spread {
     Varying,
 }
 
+fn spread(r: &mut Random) -> Spread {
+    match r.below(10) {
+        0..=2 => Spread::Bare,
+        3..=4 => Spread::SlantHere,
+        5 => Spread::SlantElsewhere,
+        6 => Spread::Few,
+        7 => Spread::Many,
+        _ => Spread::Varying,
+    }
+}
+
 fn axes(r: &mut Random, spread: Spread, request: &Asked, plan: &FacePlan) -> Vec<AxisPlan> {
-    const TAGS: [[u8; 4]; 6] = [*b"wght", *b"wdth", *b"slnt", *b"ital", *b"opsz", *b"GRAD"];
     let same = plan.ratio == request.ratio;
     let tags: Vec<[u8; 4]> = match spread {
         Spread::Bare => Vec::new(),
@@ -404,14 +368,7 @@ fn axes(r: &mut Random, spread: Spread, request: &Asked, plan: &FacePlan) -> Vec
 }
 
 fn random_case(r: &mut Random) -> Case {
-    let spread = match r.below(10) {
-        0..=2 => Spread::Bare,
-        3..=4 => Spread::SlantHere,
-        5 => Spread::SlantElsewhere,
-        6 => Spread::Few,
-        7 => Spread::Many,
-        _ => Spread::Varying,
-    };
+    let spread = spread(r);
     let count = match r.below(40) {
         0..=1 => 1,
         _ if spread == Spread::Varying => r.within(1, 4),
@@ -421,11 +378,11 @@ fn random_case(r: &mut Random) -> Case {
         38 => r.within(25, 63),
         _ => 64,
     };
-    let mut pools = pools(r);
+    let (mut pools, sloping) = pools(r);
     if spread == Spread::Varying {
-        pools.styles.extend([NORMAL; 4]);
+        pools.styles.extend([Style::NORMAL; 4]);
     }
-    let request = request(r, &pools);
+    let request = request(r, &pools, sloping);
     let mut plans: Vec<FacePlan> = Vec::new();
     for _ in 0..count {
         // A face may stand twice in a family.
@@ -453,7 +410,7 @@ fn random_case(r: &mut Random) -> Case {
 mod tests {
     use super::*;
 
-    /// Every number stays inside section 1 of 01, and the same seed gives the same list.
+    /// Every number is one of section 1, and the same seed gives the same list.
     #[test]
     fn random_cases() {
         let ok = |ratio: f32, style: Style, weight: f32| {

@@ -1,8 +1,8 @@
 //! Small random fonts and ways to damage one.
 
-use crate::{bytes::*, random::Random};
+use crate::{bytes::*, numbers::TAGS, random::Random};
 
-/// The pairs that 01 names, class by class.
+/// The pairs that docs/GUIDE.md names (section 2), class by class.
 pub const CLASSES: [&[(u16, u16)]; 4] = [
     &[(3, 10), (0, 4), (0, 6)],
     &[(3, 1), (0, 0), (0, 1), (0, 2), (0, 3)],
@@ -11,14 +11,14 @@ pub const CLASSES: [&[(u16, u16)]; 4] = [
 ];
 
 fn random_axis(r: &mut Random) -> FixedAxis {
-    let tag = r.pick(&[b"wght", b"wdth", b"slnt", b"ital", b"opsz", b"GRAD"]);
+    let tag = r.pick(&TAGS);
     let mut number = || match r.below(3) {
         0 => (r.below(1001) as u32) << 16,
         1 => r.bits(),
         _ => r.bits() >> r.below(32),
     };
     FixedAxis {
-        tag: *tag,
+        tag,
         min: number(),
         default: number(),
         max: number(),
@@ -142,17 +142,7 @@ pub fn damage(r: &mut Random, bytes: &mut Vec<u8>, tables: usize) {
                 }
             }
         }
-        8..=9 if tables > 0 => {
-            let number = r.below(tables);
-            let by = r.pick(&[1, 2, 4, 0u32.wrapping_sub(1), 0u32.wrapping_sub(2)]);
-            if r.chance(1, 2) {
-                let offset = offset(bytes, number).wrapping_add(by);
-                set_offset(bytes, number, offset);
-            } else {
-                let length = length(bytes, number).wrapping_add(by);
-                set_length(bytes, number, length);
-            }
-        }
+        8..=9 if tables > 0 => damage_record(r, bytes, tables),
         10 => {
             let cut = r.within(1, 8).min(bytes.len());
             bytes.truncate(bytes.len() - cut);
@@ -161,5 +151,18 @@ pub fn damage(r: &mut Random, bytes: &mut Vec<u8>, tables: usize) {
             let left = r.below(bytes.len() + 1);
             bytes.truncate(left.max(directory.saturating_sub(1)));
         }
+    }
+}
+
+/// A table's offset or length a little off.
+fn damage_record(r: &mut Random, bytes: &mut [u8], tables: usize) {
+    let number = r.below(tables);
+    let by = r.pick(&[1, 2, 4, 0u32.wrapping_sub(1), 0u32.wrapping_sub(2)]);
+    if r.chance(1, 2) {
+        let offset = offset(bytes, number).wrapping_add(by);
+        set_offset(bytes, number, offset);
+    } else {
+        let length = length(bytes, number).wrapping_add(by);
+        set_length(bytes, number, length);
     }
 }

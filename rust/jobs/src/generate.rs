@@ -4,63 +4,17 @@ use crate::{
     bytes::{FixedAxis, START, Table, cmap, filler, font_with_gaps, fvar, head, os2, post},
     fonts::{CLASSES, random_font},
     layout::{Face, Job, Override, Request, Style},
-    numbers::{BANDS, angle, nearby, ratio, some, weight},
+    numbers::{BANDS, TAGS, nearby, some, style, weight},
+    pools::{Pools, near},
     random::Random,
 };
 
-const NORMAL: Style = Style { kind: 0, angle: 0 };
-const ITALIC: Style = Style { kind: 1, angle: 0 };
-const UNSTATED: Style = Style { kind: 2, angle: 0 };
-
-fn stated(angle: f32) -> Style {
-    Style {
-        kind: 3,
-        angle: angle.to_bits(),
-    }
-}
-
-fn style(r: &mut Random) -> Style {
-    match r.below(8) {
-        0..=1 => NORMAL,
-        2 => ITALIC,
-        3 => UNSTATED,
-        _ => stated(angle(r)),
-    }
-}
-
-/// Values that the faces and requests of one job share, so that ties are common.
-struct Pools {
-    ratios: Vec<f32>,
-    styles: Vec<Style>,
-    weights: Vec<f32>,
-}
-
 fn pools(r: &mut Random) -> Pools {
-    let (ratios, styles, weights) = match r.below(5) {
-        0 => (1, 1, 6),
-        1 => (1, 6, 2),
-        2 => (5, 2, 2),
-        3 => (2, 4, 4),
-        _ => (2, 2, 2),
-    };
-    let mut pools = Pools {
-        ratios: some(r, 1, ratios, ratio),
-        styles: some(r, 1, styles, style),
-        weights: some(r, 1, weights, weight),
-    };
-    // Ratios of one whole percent, unstated beside 14, both zeros, defaults.
-    if r.chance(1, 6) {
-        pools.ratios.extend([0.875, 0.87109375]);
-    }
-    if r.chance(1, 5) {
-        pools.styles.extend([UNSTATED, stated(14.0)]);
-    }
-    if r.chance(1, 8) {
-        pools.styles.extend([stated(0.0), stated(-0.0)]);
-    }
+    let mut pools = Pools::draw(r, 2);
+    // The defaults.
     if r.chance(1, 2) {
         pools.ratios.push(1.0);
-        pools.styles.push(NORMAL);
+        pools.styles.push(Style::NORMAL);
         pools.weights.push(400.0);
     }
     // Angles of one band or two, at one width.
@@ -68,10 +22,12 @@ fn pools(r: &mut Random) -> Pools {
         pools.ratios.truncate(1);
         pools.styles = some(r, 2, 4, |r| {
             let band = r.pick(&BANDS);
-            stated(r.pick(band))
+            Style::stated(r.pick(band))
         });
         if r.chance(1, 3) {
-            pools.styles.push(r.pick(&[NORMAL, ITALIC, UNSTATED]));
+            pools
+                .styles
+                .push(r.pick(&[Style::NORMAL, Style::ITALIC, Style::UNSTATED]));
         }
     }
     pools
@@ -111,7 +67,15 @@ enum Spread {
     Many,
 }
 
-const TAGS: [[u8; 4]; 6] = [*b"wght", *b"wdth", *b"slnt", *b"ital", *b"opsz", *b"GRAD"];
+fn spread(r: &mut Random) -> Spread {
+    match r.below(24) {
+        0..=9 => Spread::Bare,
+        10..=14 => Spread::Slant,
+        15..=18 => Spread::Few,
+        19..=22 => Spread::Varying,
+        _ => Spread::Many,
+    }
+}
 
 fn axis(r: &mut Random, tag: [u8; 4], pools: &Pools) -> FixedAxis {
     let number = |r: &mut Random| match r.below(4) {
@@ -301,45 +265,41 @@ fn list(r: &mut Random, shape: Shape, families: usize, most: usize) -> Vec<u16> 
         .collect()
 }
 
-fn request(r: &mut Random, shape: Shape, families: usize, pools: &Pools) -> Request {
-    let ratio = match r.below(4) {
-        0 => ratio(r),
-        1 => {
-            let near = r.pick(&pools.ratios);
-            nearby(r, near).clamp(-0.0, 16.0)
-        }
-        _ => r.pick(&pools.ratios),
-    };
-    let style = match r.below(4) {
+fn requested_style(r: &mut Random, pools: &Pools) -> Style {
+    match r.below(4) {
         0 => r.pick(&pools.styles),
         1 => match r.pick(&pools.styles) {
-            Style { kind: 3, angle } => stated(nearby(r, f32::from_bits(angle))),
-            _ => r.pick(&[NORMAL, ITALIC, UNSTATED, stated(14.0)]),
+            Style { kind: 3, angle } => Style::stated(nearby(r, f32::from_bits(angle))),
+            _ => r.pick(&[
+                Style::NORMAL,
+                Style::ITALIC,
+                Style::UNSTATED,
+                Style::stated(14.0),
+            ]),
         },
         2 => r.pick(&[
-            NORMAL,
-            ITALIC,
-            UNSTATED,
-            stated(-14.0),
-            stated(4.0),
-            stated(-4.0),
+            Style::NORMAL,
+            Style::ITALIC,
+            Style::UNSTATED,
+            Style::stated(-14.0),
+            Style::stated(4.0),
+            Style::stated(-4.0),
         ]),
         _ => style(r),
-    };
+    }
+}
+
+fn request(r: &mut Random, shape: Shape, families: usize, pools: &Pools) -> Request {
+    let ratio = pools.ratio(r);
+    let style = requested_style(r, pools);
     let weight = match r.below(6) {
         0..=1 => r.pick(&pools.weights),
-        2 => {
-            let near = r.pick(&pools.weights);
-            nearby(r, near)
-        }
+        2 => near(r, &pools.weights),
         3 => {
             let near = r.pick(&pools.weights) + 200.0;
             nearby(r, near)
         }
-        4 => {
-            let edge = r.pick(&[400.0, 450.0, 500.0]);
-            nearby(r, edge)
-        }
+        4 => near(r, &[400.0, 450.0, 500.0]),
         _ => weight(r),
     };
     Request {
@@ -356,13 +316,7 @@ fn request(r: &mut Random, shape: Shape, families: usize, pools: &Pools) -> Requ
 pub fn job(r: &mut Random) -> Job {
     let shape = shape(r);
     let pools = pools(r);
-    let spread = match r.below(24) {
-        0..=9 => Spread::Bare,
-        10..=14 => Spread::Slant,
-        15..=18 => Spread::Few,
-        19..=22 => Spread::Varying,
-        _ => Spread::Many,
-    };
+    let spread = spread(r);
     let faces = match shape {
         Shape::ManyFaces => r.pick(&[40, 100, 255, 256]),
         _ if r.chance(1, 40) => 0,

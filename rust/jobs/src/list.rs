@@ -1,5 +1,7 @@
 //! The list of jobs: those made for a purpose, then random ones.
 
+use plain::job::BYTES;
+
 use crate::{
     bytes::{FixedAxis, START, font, fvar, os2, plain_cmap},
     damage::{self, Expected, Way},
@@ -20,37 +22,59 @@ pub fn made() -> Vec<Case> {
     let mut list = List(Vec::new());
     pairs(&mut list);
     faces_to_try(&mut list);
-    grids(&mut list);
+    style_grids(&mut list);
+    weight_grid(&mut list);
+    width_grid(&mut list);
     axis_sets(&mut list);
-    overrides(&mut list);
+    override_masks(&mut list);
+    override_axes(&mut list);
     limits(&mut list);
     every_field(&mut list);
     list.0
 }
 
-/// Most bytes of a job.
-const BYTES: usize = 16_777_216;
-
 /// Jobs of the most bytes, and of one more: an accepted one, and zeros. Large,
-/// so not among those for a purpose.
-pub fn largest() -> Vec<Case> {
-    let mut list = List(Vec::new());
+/// so not among those for a purpose, and made one by one.
+pub fn largest() -> impl Iterator<Item = Case> {
+    let sizes = [("the most", BYTES), ("one over the most", BYTES + 1)];
+    let faces = sizes.map(|(label, size)| (label, size, true));
+    let zeros = sizes.map(|(label, size)| (label, size, false));
+    let all = faces.into_iter().chain(zeros);
+    all.map(|(label, size, faces)| {
+        let (label, bytes, accepted) = if faces {
+            (
+                format!("{label} bytes"),
+                large_job(size),
+                Expected::Accepted,
+            )
+        } else {
+            let left = Expected::Refused(27, 8);
+            (format!("{label} zeros"), vec![0; size], left)
+        };
+        let expected = match size {
+            BYTES => accepted,
+            _ => Expected::Refused(17, 0),
+        };
+        Case {
+            label,
+            bytes,
+            expected,
+        }
+    })
+}
+
+/// Two faces, one of them as long as it takes.
+fn large_job(size: usize) -> Vec<u8> {
     let mut job = Job {
         faces: vec![face(400), face(700)],
         families: vec![vec![0, 1]],
         requests: vec![request(1.0, 700.0)],
         ..Job::default()
     };
-    let more = BYTES - write(&job).bytes.len();
-    let size = job.faces[1].font.len() + more;
-    job.faces[1].font.resize(size, 0);
-    list.accepted("the most bytes", &job);
-    job.faces[1].font.push(0);
-    list.refused("a byte over the most", &job, 17, 0);
-    list.add("the most zeros", (vec![0; BYTES], Expected::Refused(27, 8)));
-    let over = vec![0; BYTES + 1];
-    list.add("a zero over the most", (over, Expected::Refused(17, 0)));
-    list.0
+    let more = size - write(&job).bytes.len();
+    let length = job.faces[1].font.len() + more;
+    job.faces[1].font.resize(length, 0);
+    write(&job).bytes
 }
 
 /// Random jobs without an end.
@@ -89,10 +113,13 @@ impl List {
         self.add(label, (write(job).bytes, Expected::Accepted));
     }
 
-    /// The job is refused at the number-th field of it.
-    fn refused(&mut self, label: impl Into<String>, job: &Job, number: u32, position: usize) {
-        let bytes = write(job).bytes;
-        self.add(label, (bytes, Expected::Refused(number, position)));
+    /// The job is accepted within a limit, else refused with number and position.
+    fn limited(&mut self, label: String, job: &Job, within: bool, refusal: (u32, usize)) {
+        let expected = match refusal {
+            _ if within => Expected::Accepted,
+            (number, position) => Expected::Refused(number, position),
+        };
+        self.add(label, (write(job).bytes, expected));
     }
 }
 
@@ -141,7 +168,7 @@ fn request(ratio: f32, weight: f32) -> Request {
     }
 }
 
-/// Section 7 of 01: its example and its pairs.
+/// Section 7 of docs/GUIDE.md: its example and its pairs.
 fn pairs(list: &mut List) {
     let example = Job {
         faces: vec![face(400), face(700)],
@@ -156,10 +183,7 @@ fn pairs(list: &mut List) {
         let mut job = example.clone();
         job.faces[0] = axes(count);
         let label = format!("{count} axes");
-        match count {
-            16 => list.accepted(label, &job),
-            _ => list.refused(label, &job, 23, 3),
-        }
+        list.limited(label, &job, count == 16, (23, 3));
     }
     for places in [64, 65] {
         let mut job = example.clone();
@@ -167,36 +191,35 @@ fn pairs(list: &mut List) {
         job.requests[0].most = 100;
         let label = format!("{places} places");
         let faces = write(&example).fields[7].at;
-        match places {
-            64 => list.accepted(label, &job),
-            _ => list.refused(label, &job, 19, faces + 4),
-        }
+        list.limited(label, &job, places == 64, (19, faces + 4));
     }
     for ratio in [16.0f32, 16f32.next_up()] {
         let mut job = example.clone();
         job.requests[0].ratio = ratio.to_bits();
         let end = write(&job).bytes.len();
         let label = format!("ratio {ratio}");
-        match ratio {
-            16.0 => list.accepted(label, &job),
-            _ => list.refused(label, &job, 26, end - 17),
-        }
-    }
-}
-
-const NORMAL: Style = Style { kind: 0, angle: 0 };
-const ITALIC: Style = Style { kind: 1, angle: 0 };
-const UNSTATED: Style = Style { kind: 2, angle: 0 };
-
-fn stated(angle: f32) -> Style {
-    Style {
-        kind: 3,
-        angle: angle.to_bits(),
+        list.limited(label, &job, ratio == 16.0, (26, end - 17));
     }
 }
 
 /// Ratio, style and weight.
 type Attributes = (f32, Style, f32);
+
+const fn of_width(ratio: f32) -> Attributes {
+    (ratio, Style::NORMAL, 400.0)
+}
+
+const fn of_style(style: Style) -> Attributes {
+    (1.0, style, 400.0)
+}
+
+const fn of_angle(angle: f32) -> Attributes {
+    of_style(Style::stated(angle))
+}
+
+const fn of_weight(weight: f32) -> Attributes {
+    (1.0, Style::NORMAL, weight)
+}
 
 fn asking((ratio, style, weight): Attributes) -> Request {
     Request {
@@ -205,65 +228,82 @@ fn asking((ratio, style, weight): Attributes) -> Request {
     }
 }
 
+/// A request for every offer of so many families.
+fn asking_all(families: u16, asked: Attributes) -> Request {
+    Request {
+        most: 65535,
+        families: (0..families).collect(),
+        ..asking(asked)
+    }
+}
+
+/// An override of a face that gives what the mask names.
+fn given(face: usize, mask: usize, (ratio, style, weight): Attributes) -> Override {
+    Override {
+        face: face as u16,
+        ratio: (mask & 1 != 0).then_some(ratio.to_bits()),
+        style: (mask & 2 != 0).then_some(style),
+        weight: (mask & 4 != 0).then_some(weight.to_bits()),
+        pairs: Vec::new(),
+    }
+}
+
 /// One face for each, by way of an override; the slanted ones have the axis.
 fn overridden(faces: &[Attributes], slanted: impl Fn(usize) -> bool) -> Job {
     let mut job = Job::default();
-    for (i, (ratio, style, weight)) in faces.iter().enumerate() {
+    for (i, attributes) in faces.iter().enumerate() {
         job.faces.push(if slanted(i) {
             face_with_axes(&[*b"slnt"])
         } else {
             bare_face()
         });
-        job.overrides.push(Override {
-            face: i as u16,
-            ratio: Some(ratio.to_bits()),
-            style: Some(*style),
-            weight: Some(weight.to_bits()),
-            pairs: Vec::new(),
-        });
+        job.overrides.push(given(i, 7, *attributes));
     }
     job
 }
 
-/// Section 7 of 01, by its numbers; 12 is no matter of a job.
+const FOURTEEN: [Attributes; 2] = [of_style(Style::UNSTATED), of_angle(14.0)];
+const LEFT: [Attributes; 2] = [of_angle(-10.0), of_angle(-20.0)];
+
+/// Section 7 of docs/GUIDE.md, by its numbers: two faces and a request.
+const TWO_FACES: [(u32, [Attributes; 2], Attributes); 11] = [
+    (1, [of_weight(300.0), of_weight(600.0)], of_weight(450.0)),
+    (2, [of_weight(400.0), of_weight(500.0)], of_weight(450.0)),
+    (3, [of_weight(350.0), of_weight(350.0)], of_weight(400.0)),
+    (4, [of_weight(600.0), of_weight(600.0)], of_weight(550.0)),
+    (5, [of_width(0.75), of_width(1.25)], of_width(1.0)),
+    (5, [of_width(0.75), of_width(1.25)], of_width(1.125)),
+    (6, FOURTEEN, of_style(Style::ITALIC)),
+    (6, FOURTEEN, of_angle(20.0)),
+    (7, LEFT, of_angle(-14.0)),
+    (7, LEFT, of_angle(-13.5)),
+    (
+        9,
+        [of_style(Style::NORMAL), of_angle(0.0)],
+        of_style(Style::ITALIC),
+    ),
+];
+
+/// Section 7 of docs/GUIDE.md; 12 is no matter of a job.
 fn faces_to_try(list: &mut List) {
-    let weight = |w: f32| (1.0, NORMAL, w);
-    let width = |x: f32| (x, NORMAL, 400.0);
-    let style = |s: Style| (1.0, s, 400.0);
-    let fourteen = [style(UNSTATED), style(stated(14.0))];
-    let left = [style(stated(-10.0)), style(stated(-20.0))];
-    let two: [(u32, [Attributes; 2], Attributes); 11] = [
-        (1, [weight(300.0), weight(600.0)], weight(450.0)),
-        (2, [weight(400.0), weight(500.0)], weight(450.0)),
-        (3, [weight(350.0), weight(350.0)], weight(400.0)),
-        (4, [weight(600.0), weight(600.0)], weight(550.0)),
-        (5, [width(0.75), width(1.25)], width(1.0)),
-        (5, [width(0.75), width(1.25)], width(1.125)),
-        (6, fourteen, style(ITALIC)),
-        (6, fourteen, style(stated(20.0))),
-        (7, left, style(stated(-14.0))),
-        (7, left, style(stated(-13.5))),
-        (9, [style(NORMAL), style(stated(0.0))], style(ITALIC)),
-    ];
     let mut add = |number: u32, mut job: Job, request: Attributes| {
         job.families = vec![(0..job.faces.len() as u16).collect()];
         job.requests = vec![asking(request)];
         list.accepted(format!("section 7, {number}"), &job);
     };
-    for (number, faces, request) in two {
+    for (number, faces, request) in TWO_FACES {
         add(number, overridden(&faces, |_| false), request);
     }
-    let slant = |i: usize| i == 1;
-    for (number, own) in [(8, NORMAL), (13, stated(0.0))] {
-        let job = overridden(&[style(own); 2], slant);
-        add(number, job, style(stated(14.0)));
+    for (number, own) in [(8, Style::NORMAL), (13, Style::stated(0.0))] {
+        let job = overridden(&[of_style(own); 2], |i| i == 1);
+        add(number, job, of_angle(14.0));
     }
-    let one = overridden(&[weight(400.0)], |_| false);
+    let one = overridden(&[of_weight(400.0)], |_| false);
     for asked in [600.0, 601.0] {
-        add(10, one.clone(), weight(asked));
+        add(10, one.clone(), of_weight(asked));
     }
     for asked in [0.9, -14.9, 200.0, -200.0] {
-        add(11, one.clone(), style(stated(asked)));
+        add(11, one.clone(), of_angle(asked));
     }
 }
 
@@ -277,60 +317,56 @@ fn grid(list: &mut List, label: &str, mut job: Job, requests: &[Attributes]) {
             (0..places).map(|_| r.below(faces) as u16).collect()
         })
         .collect();
-    for asked in requests {
-        job.requests.push(Request {
-            most: 65535,
-            families: (0..64).collect(),
-            ..asking(*asked)
-        });
-    }
+    job.requests = requests.iter().map(|q| asking_all(64, *q)).collect();
     list.accepted(label, &job);
 }
 
-/// Styles, weights and widths at their edges, many small families of them.
-fn grids(list: &mut List) {
-    let fourteen = 14f32;
-    let styles = [
-        NORMAL,
-        ITALIC,
-        UNSTATED,
-        stated(14.0),
-        stated(fourteen.next_up()),
-        stated(fourteen.next_down()),
-        stated(20.0),
-        stated(5.0),
-        stated(0.0),
-        stated(-0.0),
-        stated(-5.0),
-        stated(-14.0),
-        stated(-fourteen.next_up()),
-        stated(-fourteen.next_down()),
-        stated(-20.0),
-    ];
-    let mut asked: Vec<Attributes> = styles.iter().map(|s| (1.0, *s, 400.0)).collect();
-    asked.extend([4.0, -4.0, 16.0, -16.0].map(|angle| (1.0, stated(angle), 400.0)));
-    let faces: Vec<Attributes> = asked[..styles.len()].to_vec();
+/// Styles at their edges.
+const STYLES: [Style; 15] = [
+    Style::NORMAL,
+    Style::ITALIC,
+    Style::UNSTATED,
+    Style::stated(14.0),
+    Style::stated(14f32.next_up()),
+    Style::stated(14f32.next_down()),
+    Style::stated(20.0),
+    Style::stated(5.0),
+    Style::stated(0.0),
+    Style::stated(-0.0),
+    Style::stated(-5.0),
+    Style::stated(-14.0),
+    Style::stated((-14f32).next_down()),
+    Style::stated((-14f32).next_up()),
+    Style::stated(-20.0),
+];
+
+fn style_grids(list: &mut List) {
+    let faces = STYLES.map(of_style);
+    let mut asked = faces.to_vec();
+    asked.extend([4.0, -4.0, 16.0, -16.0].map(of_angle));
     grid(list, "styles", overridden(&faces, |_| false), &asked);
     // Twice each, some of them slanted.
-    let twice = faces.repeat(2);
     let slanted = |i: usize| i > 15 && i.is_multiple_of(3);
-    grid(list, "styles, slanted", overridden(&twice, slanted), &asked);
+    let twice = overridden(&faces.repeat(2), slanted);
+    grid(list, "styles, slanted", twice, &asked);
     // One side only, unstated beside stated 14: its order decides.
-    let near: Vec<Attributes> = [UNSTATED, stated(14.0), stated(12.0), stated(16.0), NORMAL]
-        .map(|style| (1.0, style, 400.0))
-        .to_vec();
-    grid(
-        list,
-        "styles beside 14",
-        overridden(&near, |_| false),
-        &asked,
-    );
-
-    let weights = [
-        -0.0f32, 0.0, 300.0, 399.0, 400.0, 401.0, 450.0, 450.0, 499.0, 500.0, 501.0, 600.0, 700.0,
+    let near = [
+        Style::UNSTATED,
+        Style::stated(14.0),
+        Style::stated(12.0),
+        Style::stated(16.0),
+        Style::NORMAL,
     ];
-    let faces: Vec<Attributes> = weights.iter().map(|w| (1.0, NORMAL, *w)).collect();
-    let asked: Vec<Attributes> = [
+    let near = overridden(&near.map(of_style), |_| false);
+    grid(list, "styles beside 14", near, &asked);
+}
+
+/// Weights at their edges.
+fn weight_grid(list: &mut List) {
+    let weights = [
+        -0.0, 0.0, 300.0, 399.0, 400.0, 401.0, 450.0, 450.0, 499.0, 500.0, 501.0, 600.0, 700.0,
+    ];
+    let asked = [
         0.0,
         350.0,
         400f32.next_down(),
@@ -341,17 +377,19 @@ fn grids(list: &mut List) {
         500f32.next_up(),
         550.0,
         800.0,
-    ]
-    .map(|w| (1.0, NORMAL, w))
-    .to_vec();
-    grid(list, "weights", overridden(&faces, |_| false), &asked);
+    ];
+    let job = overridden(&weights.map(of_weight), |_| false);
+    grid(list, "weights", job, &asked.map(of_weight));
+}
 
+/// Widths at their edges.
+fn width_grid(list: &mut List) {
     let ratios = [
         0.0, -0.0, 0.5, 0.87109375, 0.875, 0.99, 1.0, 1.005, 1.01, 1.125, 1.25, 16.0,
     ];
-    let faces: Vec<Attributes> = ratios.iter().map(|x| (*x, NORMAL, 400.0)).collect();
-    let mut asked = faces.clone();
-    asked.extend([0.7, 0.98, 1.02, 2.0].map(|x| (x, NORMAL, 400.0)));
+    let faces = ratios.map(of_width);
+    let mut asked = faces.to_vec();
+    asked.extend([0.7, 0.98, 1.02, 2.0].map(of_width));
     grid(list, "widths", overridden(&faces, |_| false), &asked);
 }
 
@@ -368,41 +406,28 @@ fn axis_sets(list: &mut List) {
         job.families.push(vec![set]);
     }
     let asked: [Attributes; 12] = [
-        (1.0, NORMAL, 400.0),
-        (1.0, NORMAL, 600.0),
-        (1.0, NORMAL, 600f32.next_up()),
-        (1.0, ITALIC, 399.0),
-        (0.875, UNSTATED, 400.0),
-        (-0.0, stated(14.5), 400.0),
-        (1f32.next_up(), stated(-0.0), 700.0),
-        (1.0, stated(0.0), 400.0),
-        (2.0, stated(-0.9), 900.0),
-        (1.0, stated(-128.5), 400.0),
-        (1.0, stated(-129.0), 400.0),
-        (16.0, stated(f32::MAX), f32::MAX),
+        (1.0, Style::NORMAL, 400.0),
+        (1.0, Style::NORMAL, 600.0),
+        (1.0, Style::NORMAL, 600f32.next_up()),
+        (1.0, Style::ITALIC, 399.0),
+        (0.875, Style::UNSTATED, 400.0),
+        (-0.0, Style::stated(14.5), 400.0),
+        (1f32.next_up(), Style::stated(-0.0), 700.0),
+        (1.0, Style::stated(0.0), 400.0),
+        (2.0, Style::stated(-0.9), 900.0),
+        (1.0, Style::stated(-128.5), 400.0),
+        (1.0, Style::stated(-129.0), 400.0),
+        (16.0, Style::stated(f32::MAX), f32::MAX),
     ];
-    for asked in asked {
-        job.requests.push(Request {
-            most: 65535,
-            families: (0..16).collect(),
-            ..asking(asked)
-        });
-    }
+    job.requests = asked.map(|asked| asking_all(16, asked)).to_vec();
     list.accepted("sets of axes", &job);
 }
 
-/// Every mask over a face that has other attributes of its own, overrides of
-/// one face in turn, and pairs of tags that are there twice, once or not.
-fn overrides(list: &mut List) {
+/// Every mask over a face that has other attributes of its own, and overrides
+/// of one face in turn.
+fn override_masks(list: &mut List) {
     let mut job = Job::default();
     let narrow = [(*b"OS/2", os2(700, 3, 1)), (*b"cmap", plain_cmap())];
-    let given = |face: usize, mask: usize, (ratio, style, weight): Attributes| Override {
-        face: face as u16,
-        ratio: (mask & 1 != 0).then_some(ratio.to_bits()),
-        style: (mask & 2 != 0).then_some(style),
-        weight: (mask & 4 != 0).then_some(weight.to_bits()),
-        pairs: Vec::new(),
-    };
     // Masks 0 to 7; then each of them before another override of the face.
     for face in 0..16 {
         job.faces.push(Face {
@@ -410,30 +435,29 @@ fn overrides(list: &mut List) {
             font: font(START, &narrow),
         });
         job.overrides
-            .push(given(face, face % 8, (1.25, stated(10.0), 300.0)));
+            .push(given(face, face % 8, (1.25, Style::stated(10.0), 300.0)));
         if face >= 8 {
-            job.overrides.push(given(face, 5, (0.5, ITALIC, 900.0)));
-            job.overrides.push(given(face, 2, (1.0, UNSTATED, 1.0)));
+            job.overrides
+                .push(given(face, 5, (0.5, Style::ITALIC, 900.0)));
+            job.overrides
+                .push(given(face, 2, (1.0, Style::UNSTATED, 1.0)));
         }
         // Each beside one with the attributes of the file.
         job.families.push(vec![0, face as u16]);
     }
     let asked = [
-        (0.75, ITALIC, 700.0),
-        (1.25, stated(10.0), 300.0),
-        (0.5, UNSTATED, 900.0),
-        (1.25, ITALIC, 700.0),
-        (0.75, NORMAL, 200.0),
+        (0.75, Style::ITALIC, 700.0),
+        (1.25, Style::stated(10.0), 300.0),
+        (0.5, Style::UNSTATED, 900.0),
+        (1.25, Style::ITALIC, 700.0),
+        (0.75, Style::NORMAL, 200.0),
     ];
-    for asked in asked {
-        job.requests.push(Request {
-            most: 65535,
-            families: (0..16).collect(),
-            ..asking(asked)
-        });
-    }
+    job.requests = asked.map(|asked| asking_all(16, asked)).to_vec();
     list.accepted("overrides with every mask", &job);
+}
 
+/// Pairs of tags that are there twice, once or not.
+fn override_axes(list: &mut List) {
     let tags = [*b"GRAD", *b"wght", *b"wght"];
     let pair = |tag: &[u8; 4], value: f32| (*tag, value.to_bits());
     let lists = [
@@ -471,42 +495,10 @@ fn limits(list: &mut List) {
         requests: vec![request(1.0, 700.0)],
         ..Job::default()
     };
-    let last = |written: &Written, counted: usize| written.bytes.len() - counted;
     for count in [256, 257] {
-        let mut job = few.clone();
-        job.faces = vec![bare_face(); count];
-        job.families[0] = vec![count as u16 - 1, 0];
-        let label = format!("{count} faces");
-        match count {
-            256 => list.accepted(label, &job),
-            _ => list.refused(label, &job, 19, 0),
-        }
-        let mut job = few.clone();
-        let start = write(&few).fields[4].at;
-        job.overrides = (0..count)
-            .map(|i| Override {
-                weight: Some((i as f32).to_bits()),
-                ..Override::default()
-            })
-            .collect();
-        let label = format!("{count} overrides");
-        match count {
-            256 => list.accepted(label, &job),
-            _ => list.refused(label, &job, 19, start),
-        }
-        let mut job = few.clone();
-        job.requests = (0..count)
-            .map(|i| Request {
-                families: vec![0; i % 2],
-                ..request(1.0, 600.0 + (i % 3) as f32)
-            })
-            .collect();
-        let entries: usize = job.requests.iter().map(|q| 17 + 2 * q.families.len()).sum();
-        let label = format!("{count} requests");
-        match count {
-            256 => list.accepted(label, &job),
-            _ => list.refused(label, &job, 19, last(&write(&job), entries + 2)),
-        }
+        faces_of_count(list, few.clone(), count);
+        overrides_of_count(list, few.clone(), count);
+        requests_of_count(list, few.clone(), count);
     }
     for count in [64, 65] {
         let mut job = few.clone();
@@ -514,13 +506,44 @@ fn limits(list: &mut List) {
         job.requests[0].families = vec![count as u16 - 1, count as u16, 0];
         let start = write(&few).fields[5].at;
         let label = format!("{count} families");
-        match count {
-            64 => list.accepted(label, &job),
-            _ => list.refused(label, &job, 19, start),
-        }
+        list.limited(label, &job, count == 64, (19, start));
     }
-    // Byte counts have no limit.
-    let mut job = few.clone();
+    byte_counts(list, few);
+    list.accepted("every count at its limit", &full());
+}
+
+fn faces_of_count(list: &mut List, mut job: Job, count: usize) {
+    job.faces = vec![bare_face(); count];
+    job.families[0] = vec![count as u16 - 1, 0];
+    let label = format!("{count} faces");
+    list.limited(label, &job, count == 256, (19, 0));
+}
+
+fn overrides_of_count(list: &mut List, mut job: Job, count: usize) {
+    let start = write(&job).fields[4].at;
+    let weight = |i: usize| Override {
+        weight: Some((i as f32).to_bits()),
+        ..Override::default()
+    };
+    job.overrides = (0..count).map(weight).collect();
+    let label = format!("{count} overrides");
+    list.limited(label, &job, count == 256, (19, start));
+}
+
+fn requests_of_count(list: &mut List, mut job: Job, count: usize) {
+    let asked = |i: usize| Request {
+        families: vec![0; i % 2],
+        ..request(1.0, 600.0 + (i % 3) as f32)
+    };
+    job.requests = (0..count).map(asked).collect();
+    let entries: usize = job.requests.iter().map(|q| 17 + 2 * q.families.len()).sum();
+    let start = write(&job).bytes.len() - entries - 2;
+    let label = format!("{count} requests");
+    list.limited(label, &job, count == 256, (19, start));
+}
+
+/// Byte counts have no limit.
+fn byte_counts(list: &mut List, mut job: Job) {
     job.faces[0] = axes(2);
     job.overrides = vec![Override {
         pairs: (0..255u8)
@@ -532,52 +555,48 @@ fn limits(list: &mut List) {
     job.requests[0].fallbacks = vec![0; 255];
     job.requests[0].most = 65535;
     list.accepted("255 pairs, families and fallbacks", &job);
-    // Everything at once.
-    let full = Job {
-        faces: (0..256)
-            .map(|i| Face {
-                held: i % 5 != 0,
-                ..bare_face()
-            })
-            .collect(),
-        overrides: (0..256)
-            .map(|i| Override {
-                face: (i * 7 % 256) as u16,
-                weight: Some((100.0 * (i % 9) as f32).to_bits()),
-                style: Some(Style {
-                    kind: (i % 3) as u8,
-                    angle: 0,
-                }),
-                ..Override::default()
-            })
-            .collect(),
-        families: (0..64)
-            .map(|f| (0..64).map(|p| ((f * 4 + p * 3) % 256) as u16).collect())
-            .collect(),
-        requests: (0..256)
-            .map(|i| Request {
-                most: (i % 9) as u16,
-                style: Style {
-                    kind: (i % 3) as u8,
-                    angle: 0,
-                },
-                families: vec![(i % 65) as u16],
-                fallbacks: vec![(i * 5 % 64) as u16],
-                ..request(1.0, 100.0 * (i % 10) as f32)
-            })
-            .collect(),
-    };
-    list.accepted("every count at its limit", &full);
 }
 
-/// A small job that has every kind of field: each cut of it, each way to
-/// damage each field of it, and pairs of damages.
-fn every_field(list: &mut List) {
+/// Everything at once.
+fn full() -> Job {
+    let style = |i: u16| Style {
+        kind: (i % 3) as u8,
+        angle: 0,
+    };
+    let hundreds = |i: u16| 100.0 * f32::from(i);
+    let full_face = |i: u16| Face {
+        held: !i.is_multiple_of(5),
+        ..bare_face()
+    };
+    let given = |i: u16| Override {
+        face: i * 7 % 256,
+        weight: Some(hundreds(i % 9).to_bits()),
+        style: Some(style(i)),
+        ..Override::default()
+    };
+    let asked = |i: u16| Request {
+        most: i % 9,
+        style: style(i),
+        families: vec![i % 65],
+        fallbacks: vec![i * 5 % 64],
+        ..request(1.0, hundreds(i % 10))
+    };
+    let family = |f: u16| (0..64).map(|p| (f * 4 + p * 3) % 256).collect();
+    Job {
+        faces: (0..256).map(full_face).collect(),
+        overrides: (0..256).map(given).collect(),
+        families: (0..64).map(family).collect(),
+        requests: (0..256).map(asked).collect(),
+    }
+}
+
+/// A small job that has every kind of field.
+fn job_of_every_field() -> Job {
     let slope = Style {
         kind: 3,
         angle: 12.5f32.to_bits(),
     };
-    let job = Job {
+    Job {
         faces: vec![bare_face(), bare_face()],
         overrides: vec![
             Override {
@@ -604,30 +623,34 @@ fn every_field(list: &mut List) {
             },
             request(0.75, 900.0),
         ],
-    };
+    }
+}
+
+/// That job: each cut of it, each way to damage each field of it, and pairs of damages.
+fn every_field(list: &mut List) {
+    let job = job_of_every_field();
     let written = write(&job);
     list.accepted("every kind of field", &job);
     for length in 0..written.bytes.len() {
-        list.add(
-            format!("first {length} bytes"),
-            damage::cut(&written, length),
-        );
+        let label = format!("first {length} bytes");
+        list.add(label, damage::cut(&written, length));
     }
     for more in [&[0u8] as &[u8], &[1], &[0, 0], &[0; 8]] {
         let label = format!("{} bytes left", more.len());
         list.add(label, damage::with_more(&written, more));
     }
-    let ways: Vec<Vec<Way>> = written
-        .fields
-        .iter()
-        .map(|field| damage::ways(&written, *field))
-        .collect();
+    let fields = written.fields.iter();
+    let ways: Vec<Vec<Way>> = fields.map(|field| damage::ways(&written, *field)).collect();
     for way in ways.iter().flatten() {
         let label = format!("{:?} at {}", way.field.kind, way.field.at);
         let ways = std::slice::from_ref(way);
         list.add(label, damage::with_ways(&written, ways));
     }
-    // A field and the next that can be damaged: the first is met first.
+    two_damages(list, &written, &ways);
+}
+
+/// A field and the next that can be damaged: the first is met first.
+fn two_damages(list: &mut List, written: &Written, ways: &[Vec<Way>]) {
     let refused: Vec<&Way> = ways
         .iter()
         .filter_map(|ways| {
@@ -638,7 +661,7 @@ fn every_field(list: &mut List) {
     for two in refused.windows(2) {
         let label = format!("fields at {} and {}", two[0].field.at, two[1].field.at);
         let two = [two[1].clone(), two[0].clone()];
-        list.add(label, damage::with_ways(&written, &two));
+        list.add(label, damage::with_ways(written, &two));
     }
 }
 
@@ -664,7 +687,7 @@ mod tests {
 
     #[test]
     fn sizes_of_the_largest() {
-        let sizes: Vec<usize> = largest().iter().map(|case| case.bytes.len()).collect();
+        let sizes: Vec<usize> = largest().map(|case| case.bytes.len()).collect();
         assert_eq!(sizes, [BYTES, BYTES + 1, BYTES, BYTES + 1]);
     }
 
@@ -673,8 +696,10 @@ mod tests {
     fn parts_of_what_is_written() {
         let mut r = Random::new(5);
         for _ in 0..2000 {
-            let job = generate::job(&mut r);
-            assert_eq!(parts(&write(&job).bytes), job);
+            let written = write(&generate::job(&mut r)).bytes;
+            let job = parts(&written).expect("a job that keeps the layout");
+            assert_eq!(write(&job).bytes, written);
+            assert_eq!(parts(&written[..written.len() - 1]), None);
         }
     }
 

@@ -1,6 +1,10 @@
-//! Ratios, angles and weights with the edges of 01 among them.
+//! Ratios, angles, styles and weights with the edges of docs/GUIDE.md among
+//! them, and the tags of axes.
 
-use crate::random::Random;
+use crate::{layout::Style, random::Random};
+
+/// The four axes that synthesis sets, and two others.
+pub const TAGS: [[u8; 4]; 6] = [*b"wght", *b"wdth", *b"slnt", *b"ital", *b"opsz", *b"GRAD"];
 
 const RATIOS: [f32; 26] = [
     0.0,
@@ -117,13 +121,18 @@ pub fn nearby(r: &mut Random, number: f32) -> f32 {
     if near.is_finite() { near } else { number }
 }
 
-/// A ratio of 01: 0 to 16.
+/// A ratio: 0 to 16.
 pub fn ratio(r: &mut Random) -> f32 {
     let ratio = match r.below(4) {
         // Hundredths: the product with 100 often falls just short of the whole.
         0 => r.below(201) as f32 / 100.0,
         _ => r.pick(&RATIOS),
     };
+    near_ratio(r, ratio)
+}
+
+/// The ratio or one beside it, within the bounds.
+pub fn near_ratio(r: &mut Random, ratio: f32) -> f32 {
     nearby(r, ratio).clamp(-0.0, 16.0)
 }
 
@@ -133,6 +142,15 @@ pub fn angle(r: &mut Random) -> f32 {
         _ => r.pick(&ANGLES),
     };
     nearby(r, angle)
+}
+
+pub fn style(r: &mut Random) -> Style {
+    match r.below(8) {
+        0..=1 => Style::NORMAL,
+        2 => Style::ITALIC,
+        3 => Style::UNSTATED,
+        _ => Style::stated(angle(r)),
+    }
 }
 
 pub fn weight(r: &mut Random) -> f32 {
@@ -155,7 +173,7 @@ pub fn some<T>(
     (0..r.within(low, high)).map(|_| one(r)).collect()
 }
 
-/// Angles that section 4 of 01 puts into groups together.
+/// Angles that section 4 of docs/GUIDE.md puts into groups together.
 pub const BANDS: [&[f32]; 5] = [
     &[0.5, 1.0, 7.0, 10.0, 12.0, 13.5, 13.999999],
     &[14.0, 14.000_001, 15.0, 20.0, 30.0, 90.0],

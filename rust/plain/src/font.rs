@@ -1,5 +1,7 @@
 //! Sections 2 and 3: what a font file says of its face, and overrides.
 
+use std::fmt;
+
 use crate::single::Single;
 
 pub type Tag = [u8; 4];
@@ -25,6 +27,18 @@ pub enum Style {
     Normal,
     Italic,
     Oblique(Angle),
+}
+
+impl Style {
+    /// The kind byte and the angle's bits, zero unless the kind is 3.
+    pub fn fields(self) -> (u8, u32) {
+        match self {
+            Self::Normal => (0, 0),
+            Self::Italic => (1, 0),
+            Self::Oblique(Angle::Unstated) => (2, 0),
+            Self::Oblique(Angle::Degrees(degrees)) => (3, degrees.0),
+        }
+    }
 }
 
 #[derive(Copy, Clone, PartialEq, Eq, Debug)]
@@ -56,6 +70,14 @@ pub struct CharmapIndex {
     pub offset: u32,
     pub symbol: bool,
     pub mac_roman: bool,
+}
+
+/// Offset and flags, as the lines have them.
+impl fmt::Display for CharmapIndex {
+    fn fmt(&self, f: &mut fmt::Formatter<'_>) -> fmt::Result {
+        let flags = [self.symbol, self.mac_roman].map(u8::from);
+        write!(f, "{} {} {}", self.offset, flags[0], flags[1])
+    }
 }
 
 #[derive(Clone, PartialEq, Eq, Debug)]
@@ -157,6 +179,21 @@ fn table<'a>(
     Some((record.offset, &file[record.offset as usize..end as usize]))
 }
 
+/// The width of a class.
+fn ratio(width_class: u16) -> f32 {
+    match width_class {
+        0 | 1 => 0.5,
+        2 => 0.625,
+        3 => 0.75,
+        4 => 0.875,
+        5 => 1.0,
+        6 => 1.125,
+        7 => 1.25,
+        8 => 1.5,
+        _ => 2.0,
+    }
+}
+
 fn attributes(file: &[u8], directory: &[Record]) -> Attributes {
     if let Some((_, os2)) = table(file, directory, b"OS/2", 78) {
         let selection = u16_at(os2, 62);
@@ -170,19 +207,8 @@ fn attributes(file: &[u8], directory: &[Record]) -> Attributes {
         } else {
             Style::Normal
         };
-        let ratio = match u16_at(os2, 6) {
-            0 | 1 => 0.5,
-            2 => 0.625,
-            3 => 0.75,
-            4 => 0.875,
-            5 => 1.0,
-            6 => 1.125,
-            7 => 1.25,
-            8 => 1.5,
-            _ => 2.0,
-        };
         return Attributes {
-            ratio: Single::new(ratio),
+            ratio: Single::new(ratio(u16_at(os2, 6))),
             style,
             weight: Single::new(f32::from(u16_at(os2, 4))),
         };
@@ -267,6 +293,58 @@ pub struct Override {
     pub style: Option<Style>,
     pub weight: Option<Single>,
     pub axes: Vec<(Tag, Single)>,
+}
+
+impl Override {
+    /// Whether every number of it is one of section 1.
+    fn is_accepted(&self) -> bool {
+        let style = self.style.unwrap_or(Style::Normal);
+        self.ratio.is_none_or(Single::is_ratio)
+            && style_is_finite(style)
+            && self.weight.is_none_or(Single::is_finite)
+            && self.axes.iter().all(|(_, value)| value.is_finite())
+    }
+}
+
+fn style_is_finite(style: Style) -> bool {
+    !matches!(style, Style::Oblique(Angle::Degrees(degrees)) if !degrees.is_finite())
+}
+
+impl Attributes {
+    /// Whether every number of them is one of section 1.
+    fn are_accepted(&self) -> bool {
+        self.ratio.is_ratio() && style_is_finite(self.style) && self.weight.is_finite()
+    }
+}
+
+/// A face by value as a call below the job takes it, or why it is refused: 19
+/// for the count of axes, then 26 for a number of the face or of what is given.
+fn by_value(font: &Font, given_is_accepted: bool) -> Result<Font, u32> {
+    if font.axes.len() > AXES {
+        return Err(19);
+    }
+    let finite = |axis: &Axis| {
+        let numbers = [axis.minimum, axis.default, axis.maximum];
+        numbers.into_iter().all(Single::is_finite)
+    };
+    if !given_is_accepted || !font.attributes.are_accepted() || !font.axes.iter().all(finite) {
+        return Err(26);
+    }
+    Ok(font.clone())
+}
+
+/// `apply_override` on a face by value.
+pub fn overridden(font: &Font, given: &Override) -> Result<Font, u32> {
+    let mut font = by_value(font, given.is_accepted())?;
+    apply_override(&mut font, given);
+    Ok(font)
+}
+
+/// `maybe_override_attributes` on a face by value.
+pub fn maybe_overridden(font: &Font, given: &Attributes) -> Result<Font, u32> {
+    let mut font = by_value(font, given.are_accepted())?;
+    maybe_override_attributes(&mut font, given);
+    Ok(font)
 }
 
 pub fn apply_override(font: &mut Font, given: &Override) {

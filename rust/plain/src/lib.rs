@@ -1,10 +1,14 @@
-//! A plain reading of document 01, written from its words alone.
+//! A plain reading of docs/GUIDE.md, sections 1 to 6, written from its words
+//! alone.
 //!
 //! Clear rather than fast: nothing is packed, kept or skipped. A module stands
-//! for a section of the document or two.
+//! for a section of the guide or two. No other package is used, so that the
+//! reading stands by itself: its limits are the guide's, read once more, and
+//! `beside` holds them to those of `stemhook`.
 
 pub mod font;
 pub mod job;
+pub mod lines;
 pub mod matching;
 pub mod offers;
 pub mod single;

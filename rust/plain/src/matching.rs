@@ -44,83 +44,82 @@ fn width_rank(request: i64, percent: i64) -> (u8, i64) {
     if first.1 { (1, first.0) } else { (2, second.0) }
 }
 
-/// The group of a style and the order inside it; none for a style in no group.
-/// `slant` says whether a face at that width has a slant axis.
-fn style_group(
-    request: Style,
-    style: Style,
-    synthesis: bool,
-    slant: bool,
-) -> Option<(u8, Direction)> {
+/// A group's turn and the order inside it.
+type Group = (u8, Direction);
+
+/// The group of a style; none for a style in no group. `slant` says whether a
+/// face at that width has a slant axis.
+fn style_group(request: Style, style: Style, synthesis: bool, slant: bool) -> Option<Group> {
     if style == request {
         return Some((0, ByPlace));
     }
-    let zero = Single::ZERO;
-    let fourteen = Single::new(14.0);
-    let minus_fourteen = Single::new(-14.0);
-    let angle = match style {
+    let x = match style {
         Style::Oblique(angle) => Some(angle.degrees()),
         _ => None,
     };
     match request {
-        Style::Normal => Some(match angle {
-            Some(x) if x >= zero => (1, Up),
-            None => (2, ByPlace),
-            Some(_) => (3, Down),
+        Style::Normal => Some(normal_group(x)),
+        Style::Italic => Some(italic_group(x)),
+        Style::Oblique(angle) => {
+            let a = angle.degrees();
+            let side = x.and_then(|x| side_group(a, x));
+            side.or_else(|| after_its_side(a, style, synthesis, slant))
+        }
+    }
+}
+
+/// Normal is requested; `x` is the angle of an oblique face.
+fn normal_group(x: Option<Single>) -> Group {
+    match x {
+        Some(x) if x >= Single::ZERO => (1, Up),
+        None => (2, ByPlace),
+        Some(_) => (3, Down),
+    }
+}
+
+/// Italic is requested.
+fn italic_group(x: Option<Single>) -> Group {
+    match x {
+        Some(x) if x >= Single::new(14.0) => (1, Up),
+        Some(x) if x > Single::ZERO => (2, Down),
+        Some(x) if x < Single::ZERO => (3, Down),
+        _ => (4, ByPlace),
+    }
+}
+
+/// Oblique `a` is requested; none for an angle that is not on its side.
+fn side_group(a: Single, x: Single) -> Option<Group> {
+    let zero = Single::ZERO;
+    let (first, second) = if a >= Single::new(14.0) {
+        ((x >= a, Up), (zero < x && x < a, Down))
+    } else if a >= zero {
+        ((zero < x && x < a, Down), (x >= a, Up))
+    } else if a > Single::new(-14.0) {
+        ((a < x && x < zero, Up), (x <= a, Down))
+    } else {
+        ((x <= a, Down), (a < x && x < zero, Up))
+    };
+    match (first, second) {
+        ((true, direction), _) => Some((1, direction)),
+        (_, (true, direction)) => Some((2, direction)),
+        _ => None,
+    }
+}
+
+/// Oblique `a` is requested, and the style is not on its side.
+fn after_its_side(a: Single, style: Style, synthesis: bool, slant: bool) -> Option<Group> {
+    match (synthesis, slant) {
+        (false, _) => Some(match style {
+            Style::Italic => (3, ByPlace),
+            Style::Oblique(_) if a >= Single::ZERO => (4, Down),
+            Style::Oblique(_) => (4, Up),
+            Style::Normal => (5, ByPlace),
         }),
-        Style::Italic => Some(match angle {
-            Some(x) if x >= fourteen => (1, Up),
-            Some(x) if x > zero => (2, Down),
-            Some(x) if x < zero => (3, Down),
+        (true, false) => Some(match style {
+            Style::Normal => (3, ByPlace),
             _ => (4, ByPlace),
         }),
-        Style::Oblique(asked) => {
-            let a = asked.degrees();
-            if let Some(x) = angle {
-                if a >= fourteen {
-                    if x >= a {
-                        return Some((1, Up));
-                    }
-                    if x > zero {
-                        return Some((2, Down));
-                    }
-                } else if a >= zero {
-                    if x > zero && x < a {
-                        return Some((1, Down));
-                    }
-                    if x >= a {
-                        return Some((2, Up));
-                    }
-                } else if a > minus_fourteen {
-                    if a < x && x < zero {
-                        return Some((1, Up));
-                    }
-                    if x <= a {
-                        return Some((2, Down));
-                    }
-                } else {
-                    if x <= a {
-                        return Some((1, Down));
-                    }
-                    if x < zero {
-                        return Some((2, Up));
-                    }
-                }
-            }
-            match (synthesis, slant) {
-                (false, _) => Some(match style {
-                    Style::Italic => (3, ByPlace),
-                    Style::Oblique(_) if a >= zero => (4, Down),
-                    Style::Oblique(_) => (4, Up),
-                    Style::Normal => (5, ByPlace),
-                }),
-                (true, false) => Some(match style {
-                    Style::Normal => (3, ByPlace),
-                    _ => (4, ByPlace),
-                }),
-                (true, true) => None,
-            }
-        }
+        (true, true) => None,
     }
 }
 

@@ -1,11 +1,9 @@
 //! Section 6: the offers of a request, the offer call and the lines of section 7.
 
-use std::fmt::Write as _;
-
 use crate::{
     font::{CharmapIndex, Font},
     job::{self, Job, Request},
-    matching,
+    lines, matching,
     synthesis::{self, Synthesis},
 };
 
@@ -115,18 +113,7 @@ pub fn text(bytes: &[u8]) -> String {
     let mut text = format!("requests {}\n", job.requests.len());
     for (number, request) in job.requests.iter().enumerate() {
         for offer in offers(&job, request) {
-            let synthesis = &offer.synthesis;
-            let _ = write!(
-                text,
-                "{number} {} {} {} {}",
-                offer.family,
-                offer.place,
-                if synthesis.embolden { 'b' } else { '-' },
-                synthesis.skew,
-            );
-            for (tag, value) in &synthesis.settings {
-                let _ = write!(text, " {}={:08x}", tag.escape_ascii(), value.0);
-            }
+            text.push_str(&lines::offer(number, &offer, false));
             text.push('\n');
         }
     }

@@ -38,7 +38,7 @@ impl Single {
         (self.0 >> 23) & 0xff != 0xff
     }
 
-    /// A width ratio of 01: 0 to 16.
+    /// A width ratio: 0 to 16.
     pub fn is_ratio(self) -> bool {
         self.is_finite() && (Self::ZERO..=Self::new(16.0)).contains(&self)
     }

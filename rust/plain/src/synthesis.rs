@@ -30,10 +30,15 @@ pub fn synthesis(font: &Font, request: &Attributes) -> Synthesis {
             out.embolden = request.weight > sum;
         }
     }
-    if own.style != Style::Normal {
-        return out;
+    if own.style == Style::Normal {
+        style(font, request.style, &mut out);
     }
-    match request.style {
+    out
+}
+
+/// The style, of a normal face.
+fn style(font: &Font, request: Style, out: &mut Synthesis) {
+    match request {
         Style::Normal => {}
         Style::Italic => {
             if font.has(b"ital") {
@@ -55,5 +60,4 @@ pub fn synthesis(font: &Font, request: &Attributes) -> Synthesis {
             }
         }
     }
-    out
 }

@@ -1,4 +1,4 @@
-//! Section 7 of 01, its example and its pairs; a refusal for each row.
+//! Section 7 of docs/GUIDE.md, its example and its pairs; a refusal for each row.
 
 use crate::{
     Single, check,
@@ -15,7 +15,7 @@ use Style::{Italic, Normal};
 
 const UNSTATED: Style = Style::Oblique(Angle::Unstated);
 
-fn oblique(degrees: f32) -> Style {
+const fn oblique(degrees: f32) -> Style {
     Style::Oblique(Angle::Degrees(Single::new(degrees)))
 }
 
@@ -62,65 +62,65 @@ fn styles(list: &[Style]) -> Vec<Font> {
     list.iter().map(|s| face(1.0, *s, 400.0)).collect()
 }
 
+fn asked_style(style: Style) -> Attributes {
+    attributes(1.0, style, 400.0)
+}
+
+fn asked_weight(weight: f32) -> Attributes {
+    attributes(1.0, Normal, weight)
+}
+
+/// Section 7, 1 to 7 and 9: the same with synthesis on and off.
 #[test]
-fn faces_to_try() {
-    let weight = |w| attributes(1.0, Normal, w);
-    let style = |s| attributes(1.0, s, 400.0);
-    let ratio = |x| attributes(x, Normal, 400.0);
-    let normal_and_slant = [
-        face(1.0, Normal, 400.0),
-        with_axis(face(1.0, Normal, 400.0), b"slnt", 0.0),
-    ];
-    let upright_and_slant = [
-        face(1.0, oblique(0.0), 400.0),
-        with_axis(face(1.0, oblique(0.0), 400.0), b"slnt", 0.0),
-    ];
-    let widths = [face(0.75, Normal, 400.0), face(1.25, Normal, 400.0)];
-    for on in [true, false] {
-        assert_eq!(
-            choice(&weights(&[300.0, 600.0]), weight(450.0), on),
-            Some(0)
-        );
-        assert_eq!(
-            choice(&weights(&[400.0, 500.0]), weight(450.0), on),
-            Some(1)
-        );
-        assert_eq!(
-            choice(&weights(&[350.0, 350.0]), weight(400.0), on),
-            Some(1)
-        );
-        assert_eq!(
-            choice(&weights(&[600.0, 600.0]), weight(550.0), on),
-            Some(0)
-        );
-        assert_eq!(choice(&widths, ratio(1.0), on), Some(0));
-        assert_eq!(choice(&widths, ratio(1.125), on), Some(1));
-        let fourteen = styles(&[UNSTATED, oblique(14.0)]);
-        assert_eq!(choice(&fourteen, style(Italic), on), Some(0));
-        assert_eq!(choice(&fourteen, style(oblique(20.0)), on), Some(1));
-        let left = styles(&[oblique(-10.0), oblique(-20.0)]);
-        assert_eq!(choice(&left, style(oblique(-14.0)), on), Some(1));
-        assert_eq!(choice(&left, style(oblique(-13.5)), on), Some(0));
-        let flat = styles(&[Normal, oblique(0.0)]);
-        assert_eq!(choice(&flat, style(Italic), on), Some(0));
+fn choices_to_try() {
+    let widths = || vec![face(0.75, Normal, 400.0), face(1.25, Normal, 400.0)];
+    let fourteen = || styles(&[UNSTATED, oblique(14.0)]);
+    let left = || styles(&[oblique(-10.0), oblique(-20.0)]);
+    for (faces, request, place) in [
+        (weights(&[300.0, 600.0]), asked_weight(450.0), 0),
+        (weights(&[400.0, 500.0]), asked_weight(450.0), 1),
+        (weights(&[350.0, 350.0]), asked_weight(400.0), 1),
+        (weights(&[600.0, 600.0]), asked_weight(550.0), 0),
+        (widths(), attributes(1.0, Normal, 400.0), 0),
+        (widths(), attributes(1.125, Normal, 400.0), 1),
+        (fourteen(), asked_style(Italic), 0),
+        (fourteen(), asked_style(oblique(20.0)), 1),
+        (left(), asked_style(oblique(-14.0)), 1),
+        (left(), asked_style(oblique(-13.5)), 0),
+        (styles(&[Normal, oblique(0.0)]), asked_style(Italic), 0),
+    ] {
+        for on in [true, false] {
+            assert_eq!(choice(&faces, request, on), Some(place), "{request:?}");
+        }
     }
-    let fourteen = style(oblique(14.0));
-    assert_eq!(choice(&normal_and_slant, fourteen, true), None);
-    assert_eq!(choice(&normal_and_slant, fourteen, false), Some(0));
-    assert_eq!(choice(&upright_and_slant, fourteen, true), None);
+}
+
+/// Section 7, 8 and 13; a family of one face and one of none.
+#[test]
+fn families_without_a_choice() {
+    let fourteen = asked_style(oblique(14.0));
+    let one_slanted = |style: Style| {
+        let own = face(1.0, style, 400.0);
+        [own.clone(), with_axis(own, b"slnt", 0.0)]
+    };
+    assert_eq!(choice(&one_slanted(Normal), fourteen, true), None);
+    assert_eq!(choice(&one_slanted(Normal), fourteen, false), Some(0));
+    assert_eq!(choice(&one_slanted(oblique(0.0)), fourteen, true), None);
+    assert_eq!(choice(&weights(&[900.0]), fourteen, true), Some(0));
+    assert_eq!(choice(&[], asked_weight(400.0), true), None);
+}
+
+/// Section 7, 10 to 12.
+#[test]
+fn numbers_to_try() {
     let own = face(1.0, Normal, 400.0);
-    assert!(!synthesis(&own, &weight(600.0)).embolden);
-    assert!(synthesis(&own, &weight(601.0)).embolden);
+    assert!(!synthesis(&own, &asked_weight(600.0)).embolden);
+    assert!(synthesis(&own, &asked_weight(601.0)).embolden);
     for (angle, skew) in [(0.9, 0), (-14.9, -14), (200.0, 127), (-200.0, -128)] {
-        assert_eq!(synthesis(&own, &style(oblique(angle))).skew, skew);
+        assert_eq!(synthesis(&own, &asked_style(oblique(angle))).skew, skew);
     }
     assert_eq!(Single::from_fixed(16777217).value(), 256.0);
     assert_eq!(Single::from_fixed(16777219).value(), 16777220.0 / 65536.0);
-    assert_eq!(choice(&[], weight(400.0), true), None);
-    assert_eq!(
-        choice(&weights(&[900.0]), style(fourteen.style), true),
-        Some(0)
-    );
 }
 
 /// 0.875 and 0.87109375 share 87 but not a list; both zeros are equal.
@@ -438,21 +438,28 @@ fn fields_of_a_face() {
     assert_eq!(check(&long), (18, 3));
 }
 
-/// An unheld face is not offered; fallbacks come last; unknown numbers are
-/// skipped; a family listed twice offers twice; the list is cut.
-#[test]
-fn turns_of_offers() {
+/// A job of three families whose request names the last twice, an unknown
+/// one, the empty one, and the first as a fallback; and where its most stands.
+fn job_of_turns() -> (Vec<u8>, usize) {
     let mut job = faces(&[font_file(400, 0), font_file(700, 0), font_file(700, 0)]);
     job.extend([0, 0]);
     job.extend([0, 3]);
     job.extend([0, 3, 0, 0, 0, 1, 0, 2]);
     job.extend([0, 0]);
     job.extend([0, 1, 0, 2]);
-    let at = job.len() + 2;
     job.extend([0, 1]);
+    let most = job.len() + 1;
     job.extend(&request(8, ONE, 700.0)[..15]);
     job.extend([4, 0, 2, 0, 9, 0, 1, 0, 2]);
     job.extend([1, 0, 0]);
+    (job, most)
+}
+
+/// An unheld face is not offered; fallbacks come last; unknown numbers are
+/// skipped; a family listed twice offers twice; the list is cut.
+#[test]
+fn turns_of_offers() {
+    let (mut job, at) = job_of_turns();
     let lines =
         |job: &[u8]| -> Vec<String> { text(job).lines().skip(1).map(String::from).collect() };
     assert_eq!(
@@ -466,10 +473,10 @@ fn turns_of_offers() {
         ]
     );
     for most in 0..5 {
-        job[at + 1] = most;
+        job[at] = most;
         assert_eq!(lines(&job).len(), usize::from(most));
     }
-    job[at + 1] = 8;
+    job[at] = 8;
     // The second face is not held.
     let second = 2 + 5 + font_file(400, 0).len();
     job[second] = 0;
@@ -482,43 +489,42 @@ fn turns_of_offers() {
     assert_eq!(lines(&job), ["0 2 0 - 0", "0 2 0 - 0", "0 0 2 - 0"]);
 }
 
+const STYLES: [Style; 10] = [
+    Normal,
+    Italic,
+    UNSTATED,
+    oblique(14.0),
+    oblique(0.0),
+    oblique(-0.0),
+    oblique(5.0),
+    oblique(20.0),
+    oblique(-5.0),
+    oblique(-20.0),
+];
+
+fn random_face(draw: &mut impl FnMut(usize) -> usize) -> Font {
+    let ratio = [0.5, 1.0, 1.0, 1.005, 1.5][draw(5)];
+    let weight = [300.0, 400.0, 450.0, 500.0, 700.0][draw(5)];
+    let own = face(ratio, STYLES[draw(10)], weight);
+    if draw(6) == 0 {
+        with_axis(own, b"slnt", 0.0)
+    } else {
+        own
+    }
+}
+
 /// In a family of two or more the choice stands before every other face.
 #[test]
 fn choice_stands_before() {
-    let pool = [
-        Normal,
-        Italic,
-        UNSTATED,
-        oblique(14.0),
-        oblique(0.0),
-        oblique(-0.0),
-        oblique(5.0),
-        oblique(20.0),
-        oblique(-5.0),
-        oblique(-20.0),
-    ];
-    let mut state = 1u32;
-    let mut draw = |bound: usize| {
-        state = state.wrapping_mul(1664525).wrapping_add(1013904223);
-        (state >> 16) as usize % bound
-    };
+    let mut random = jobs::random::Random::new(1);
+    let mut draw = |bound: usize| random.below(bound);
     for _ in 0..20_000 {
-        let family: Vec<Font> = (0..2 + draw(5))
-            .map(|_| {
-                let ratio = [0.5, 1.0, 1.0, 1.005, 1.5][draw(5)];
-                let weight = [300.0, 400.0, 450.0, 500.0, 700.0][draw(5)];
-                let own = face(ratio, pool[draw(10)], weight);
-                if draw(6) == 0 {
-                    with_axis(own, b"slnt", 0.0)
-                } else {
-                    own
-                }
-            })
-            .collect();
+        let count = 2 + draw(5);
+        let family: Vec<Font> = (0..count).map(|_| random_face(&mut draw)).collect();
         let family: Vec<&Font> = family.iter().collect();
         let request = attributes(
             [0.5, 1.0, 1.25][draw(3)],
-            pool[draw(10)],
+            STYLES[draw(10)],
             [350.0, 400.0, 450.0, 600.0][draw(4)],
         );
         for on in [true, false] {
@@ -532,4 +538,29 @@ fn choice_stands_before() {
             }
         }
     }
+}
+
+/// On a face by value 19 comes before 26, whichever number it is that is out.
+#[test]
+fn faces_by_value() {
+    let own = with_axis(face(1.0, Normal, 400.0), b"wght", 400.0);
+    let given = |weight: f32| attributes(1.0, Normal, weight);
+    assert!(font::maybe_overridden(&own, &given(700.0)).is_ok());
+    assert_eq!(font::maybe_overridden(&own, &given(f32::NAN)), Err(26));
+    let nothing = Override {
+        ratio: None,
+        style: None,
+        weight: None,
+        axes: Vec::new(),
+    };
+    assert!(font::overridden(&own, &nothing).is_ok());
+    let tilted = Override {
+        style: Some(oblique(f32::INFINITY)),
+        ..nothing.clone()
+    };
+    assert_eq!(font::overridden(&own, &tilted), Err(26));
+    let bad = with_axis(own, b"slnt", f32::NAN);
+    assert_eq!(font::overridden(&bad, &nothing), Err(26));
+    let many = (0..16).fold(bad, |face, _| with_axis(face, b"opsz", 0.0));
+    assert_eq!(font::overridden(&many, &nothing), Err(19));
 }

@@ -1,30 +1,21 @@
-//! The check and the offer call of 01, written over the original's font
-//! reading, overrides, matching and synthesis as a Rust program would have
+//! The check and the offer call (docs/GUIDE.md, section 6), written over the
+//! original's font reading, overrides, matching and synthesis as a Rust program would have
 //! them: one pass over the job, the families of the request in turn up to the
 //! offer that is asked for, and nothing kept from one call to the next.
 
 use std::{path::Path, sync::Arc};
 
+use plain::{
+    job::{BYTES, FACES, FAMILIES, OVERRIDES, PLACES, REQUESTS},
+    offers::OUTPUT,
+};
 use read_fonts::{FontRef, TableProvider as _, TopLevelTable as _, tables::cmap::Cmap, types::Tag};
 
 use crate::{
-    Attributes, FontInfo, FontInfoOverride, FontStyle, FontWeight, FontWidth, Synthesis,
+    Attributes, FontInfo, FontInfoOverride, FontStyle, FontWeight, FontWidth, Synthesis, describe,
     matching::{match_font, match_fonts},
     source::{SourceId, SourceInfo, SourceKind},
 };
-
-/// Bytes of the output.
-const OUTPUT: usize = 40;
-
-/// Most bytes of a job.
-const BYTES: usize = 16_777_216;
-
-const FACES: u16 = 256;
-const OVERRIDES: u16 = 256;
-const FAMILIES: u16 = 64;
-const PLACES: u16 = 64;
-const REQUESTS: u16 = 256;
-const AXES: usize = 16;
 
 /// The table's number and the field's position.
 #[derive(Copy, Clone, PartialEq, Eq, Debug)]
@@ -83,13 +74,16 @@ struct Job<'a> {
     request: Option<Request<'a>>,
 }
 
+impl<'a> Job<'a> {
+    fn face(&self, places: Numbers<'_>, place: usize) -> &Face<'a> {
+        &self.faces[usize::from(u16::from_be_bytes(places[place]))]
+    }
+}
+
 /// Reads the whole job; of its requests only the asked one is kept.
 fn read(job: &[u8], asked: usize) -> Result<Job<'_>, Refusal> {
     if job.len() > BYTES {
-        return Err(Refusal {
-            number: 17,
-            position: 0,
-        });
+        return refuse(17, 0);
     }
     let mut reader = Reader { job, at: 0 };
     // The original wants a source for each font; this one is never loaded.
@@ -163,9 +157,9 @@ impl<'a> Reader<'a> {
             .map(|(bytes, at)| (f32::from_be_bytes(bytes), at))
     }
 
-    fn count(&mut self, limit: u16) -> Result<u16, Refusal> {
+    fn count(&mut self, limit: u32) -> Result<u16, Refusal> {
         match self.number()? {
-            (count, at) if count > limit => refuse(19, at),
+            (count, at) if u32::from(count) > limit => refuse(19, at),
             (count, _) => Ok(count),
         }
     }
@@ -215,6 +209,18 @@ impl<'a> Reader<'a> {
         }
     }
 
+    /// An attribute that is given, or else four bytes that have to be zero.
+    fn given<T>(
+        &mut self,
+        given: bool,
+        read: impl Fn(&mut Self) -> Result<T, Refusal>,
+    ) -> Result<Option<T>, Refusal> {
+        if given {
+            return read(self).map(Some);
+        }
+        self.spare::<4>().map(|()| None)
+    }
+
     fn face(&mut self, source: &SourceInfo) -> Result<Face<'a>, Refusal> {
         let held = match self.byte()? {
             (held, _) if held <= 1 => held == 1,
@@ -227,7 +233,7 @@ impl<'a> Reader<'a> {
             return refuse(18, at);
         };
         self.at += length;
-        match font_info(file, source) {
+        match describe::read_from(file, source.clone()) {
             Ok(info) => Ok(Face { held, file, info }),
             Err(number) => refuse(number, at),
         }
@@ -244,25 +250,12 @@ impl<'a> Reader<'a> {
             (mask, _) if mask <= 7 => mask,
             (_, at) => return refuse(25, at),
         };
-        let width = if mask & 1 != 0 {
-            Some(self.width()?)
-        } else {
-            self.spare::<4>()?;
-            None
-        };
-        let style = if mask & 2 != 0 {
-            Some(self.style()?)
-        } else {
+        let width = self.given(mask & 1 != 0, Self::width)?;
+        if mask & 2 == 0 {
             self.spare::<1>()?;
-            self.spare::<4>()?;
-            None
-        };
-        let weight = if mask & 4 != 0 {
-            Some(self.weight()?)
-        } else {
-            self.spare::<4>()?;
-            None
-        };
+        }
+        let style = self.given(mask & 2 != 0, Self::style)?;
+        let weight = self.given(mask & 4 != 0, Self::weight)?;
         pairs.clear();
         for _ in 0..self.byte()?.0 {
             let (tag, _) = self.field()?;
@@ -315,61 +308,78 @@ impl<'a> Reader<'a> {
     }
 }
 
-/// A font as the original reads it, or why it is refused.
-fn font_info(file: &[u8], source: &SourceInfo) -> Result<FontInfo, u32> {
-    let font = FontRef::from_index(file, 0).map_err(|_| 21u32)?;
-    let info = FontInfo::from_font_ref(&font, source.clone(), 0).ok_or(22u32)?;
-    if info.axes().len() > AXES {
-        return Err(23);
-    }
-    Ok(info)
-}
-
 /// The record of the offer with the number, none past the list.
 fn find(job: &Job<'_>, request: &Request<'_>, number: usize) -> Option<[u8; OUTPUT]> {
     if number >= request.most {
         return None;
     }
-    let Attributes {
-        width,
-        style,
-        weight,
-    } = request.attributes;
-    let mut left = number;
-    let mut fonts: Vec<FontInfo> = Vec::new();
-    let mut equal: Vec<usize> = Vec::new();
+    let mut walk = Walk {
+        left: number,
+        fonts: Vec::new(),
+        equal: Vec::new(),
+    };
     for family in request.families.iter().chain(request.fallbacks) {
         let family = u16::from_be_bytes(*family);
         let Some(places) = job.families.get(usize::from(family)) else {
             continue;
         };
-        if places.is_empty() {
-            continue;
-        }
-        let face = |place: usize| &job.faces[usize::from(u16::from_be_bytes(places[place]))];
-        fonts.clear();
-        fonts.extend((0..places.len()).map(|place| face(place).info.clone()));
-        equal.clear();
-        equal.extend(match_fonts(&fonts, width, style, weight, true));
-        let offered = |place: usize| {
-            let synthesis = fonts[place].synthesis(width, style, weight);
-            Some(record(family, place, &synthesis, face(place).file))
-        };
-        for place in equal.iter().copied().filter(|place| face(*place).held) {
-            if left == 0 {
-                return offered(place);
-            }
-            left -= 1;
-        }
-        let default = default_place(&fonts);
-        if face(default).held && !equal.contains(&default) {
-            if left == 0 {
-                return offered(default);
-            }
-            left -= 1;
+        if let Some(place) = walk.place(job, places, request.attributes) {
+            let Attributes {
+                width,
+                style,
+                weight,
+            } = request.attributes;
+            let synthesis = walk.fonts[place].synthesis(width, style, weight);
+            let file = job.face(places, place).file;
+            return Some(record(family, place, &synthesis, file));
         }
     }
     None
+}
+
+/// From family to family, up to the offer that is asked for.
+struct Walk {
+    /// Offers that stand before it.
+    left: usize,
+    /// Room for the fonts of a family and its equal list.
+    fonts: Vec<FontInfo>,
+    equal: Vec<usize>,
+}
+
+impl Walk {
+    /// The place of the offer, none where it is not one of the family's.
+    fn place(&mut self, job: &Job<'_>, places: Numbers<'_>, asked: Attributes) -> Option<usize> {
+        if places.is_empty() {
+            return None;
+        }
+        let face = |place: usize| job.face(places, place);
+        let held = |place: &usize| face(*place).held;
+        self.fonts.clear();
+        self.fonts
+            .extend((0..places.len()).map(|place| face(place).info.clone()));
+        self.equal.clear();
+        self.equal.extend(match_fonts(
+            &self.fonts,
+            asked.width,
+            asked.style,
+            asked.weight,
+            true,
+        ));
+        for place in self.equal.iter().copied().filter(held) {
+            if self.left == 0 {
+                return Some(place);
+            }
+            self.left -= 1;
+        }
+        let default = default_place(&self.fonts);
+        if held(&default) && !self.equal.contains(&default) {
+            if self.left == 0 {
+                return Some(default);
+            }
+            self.left -= 1;
+        }
+        None
+    }
 }
 
 /// As in `FamilyInfo::new`.

@@ -1,16 +1,20 @@
 //! The list of families with a request each, and what the original answers.
 
-use std::{fmt::Write as _, fs, io, path::Path};
+use std::{io, path::Path};
 
 use jobs::{
     families::{self, FacePlan, faces_to_try},
     layout::{Override, Style},
 };
+use plain::{
+    font::Font,
+    lines::{self, Answer},
+};
 use read_fonts::types::Tag;
 
 use crate::{
-    Attributes, FamilyInfo, FontInfo, FontInfoOverride, FontStyle, FontWeight, FontWidth, describe,
-    family_name::FamilyNameMap, matching::match_fonts,
+    Attributes, FamilyInfo, FontInfo, FontInfoOverride, FontStyle, FontWeight, FontWidth, as_plain,
+    describe, family_name::FamilyNameMap, lists, matching::match_fonts,
 };
 
 /// A family and a request; the faces are the original's.
@@ -69,30 +73,18 @@ pub fn style(style: Style) -> FontStyle {
     }
 }
 
-/// The bytes of one case, big-endian; the faces as the original holds them.
-pub fn put_case(out: &mut Vec<u8>, case: &Case) {
-    out.push(case.synthesis as u8);
-    let request = case.request;
-    put_attributes(out, request.width, request.style, request.weight);
-    out.push(case.faces.len() as u8);
-    for face in &case.faces {
-        put_attributes(out, face.width(), face.style(), face.weight());
-        out.push(face.axes().len() as u8);
-        for axis in face.axes() {
-            out.extend(axis.tag.to_be_bytes());
-            out.extend(axis.min.to_bits().to_be_bytes());
-            out.extend(axis.default.to_bits().to_be_bytes());
-            out.extend(axis.max.to_bits().to_be_bytes());
-        }
-    }
-}
-
-fn put_attributes(out: &mut Vec<u8>, width: FontWidth, style: FontStyle, weight: FontWeight) {
-    let (kind, angle) = describe::style_fields(style);
-    out.extend(width.ratio().to_bits().to_be_bytes());
-    out.push(kind);
-    out.extend(angle.to_be_bytes());
-    out.extend(weight.value().to_bits().to_be_bytes());
+/// The bytes of a case and what the original answers to it, a line without its
+/// end; the faces are as the original holds them.
+pub fn answer(case: &Case) -> (Vec<u8>, String) {
+    let Attributes {
+        width,
+        style,
+        weight,
+    } = case.request;
+    let request = as_plain::attributes(width, style, weight);
+    let faces: Vec<Font> = case.faces.iter().map(as_plain::face).collect();
+    let bytes = lines::family_bytes(case.synthesis, &request, &faces);
+    (bytes, line(case))
 }
 
 /// What the original answers: choice, equal list, default and synthesis; no line end.
@@ -106,32 +98,14 @@ pub fn line(case: &Case) -> String {
     let family = FamilyInfo::new(name, case.faces.iter().cloned());
     let choice = family.match_index(width, style, weight, case.synthesis);
     let default = family.default_font_index();
-    let equal: Vec<String> = match_fonts(family.fonts(), width, style, weight, case.synthesis)
-        .map(|place| place.to_string())
-        .collect();
     let shown = &family.fonts()[choice.unwrap_or(default)];
-    let synthesis = shown.synthesis(width, style, weight);
-
-    let mut line = match choice {
-        Some(place) => place.to_string(),
-        None => "-".to_string(),
+    let answer = Answer {
+        choice,
+        equal: match_fonts(family.fonts(), width, style, weight, case.synthesis).collect(),
+        default,
+        synthesis: as_plain::synthesis(&shown.synthesis(width, style, weight)),
     };
-    let equal = if equal.is_empty() {
-        "-".to_string()
-    } else {
-        equal.join(",")
-    };
-    let _ = write!(
-        line,
-        " {equal} {default} {} {}",
-        if synthesis.embolden() { 'b' } else { '-' },
-        synthesis.skew().unwrap_or(0.0) as i32,
-    );
-    for (tag, value) in synthesis.variation_settings() {
-        let tag = tag.to_be_bytes();
-        let _ = write!(line, " {}={:08x}", tag.escape_ascii(), value.to_bits());
-    }
-    line
+    answer.line()
 }
 
 /// Writes `stdin` and `stdout` into the folder.
@@ -139,16 +113,15 @@ pub fn write(folder: &Path, cases: &[Case]) -> io::Result<()> {
     let mut stdin = Vec::new();
     let mut stdout = String::new();
     for case in cases {
-        put_case(&mut stdin, case);
-        stdout.push_str(&line(case));
+        let (bytes, line) = answer(case);
+        stdin.extend(bytes);
+        stdout.push_str(&line);
         stdout.push('\n');
     }
-    fs::create_dir_all(folder)?;
-    fs::write(folder.join("stdin"), stdin)?;
-    fs::write(folder.join("stdout"), stdout)
+    lists::write(folder, &stdin, &stdout)
 }
 
-/// The cases of 01's section 7 first, then random ones, `count` in all.
+/// The cases of docs/GUIDE.md, section 7, first, then random ones, `count` in all.
 pub fn cases(seed: u64, count: usize) -> Vec<Case> {
     let random = families::random(seed);
     let cases = faces_to_try().into_iter().chain(random).take(count);
@@ -159,7 +132,7 @@ pub fn cases(seed: u64, count: usize) -> Vec<Case> {
 mod tests {
     use super::*;
 
-    /// The choices that section 7 of 01 names, synthesis on and then off.
+    /// The choices that section 7 names, synthesis on and then off.
     #[test]
     fn section_7() {
         let lines: Vec<String> = cases(0, faces_to_try().len()).iter().map(line).collect();
@@ -182,7 +155,7 @@ mod tests {
         assert_eq!(skews, ["0", "-14", "127", "-128"]);
     }
 
-    /// Every number stays inside section 1 of 01 once the faces are made.
+    /// Every number is one of section 1 once the faces are made.
     #[test]
     fn numbers_of_made_faces() {
         for case in cases(7, 400) {

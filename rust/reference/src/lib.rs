@@ -15,19 +15,25 @@ pub use collection::{Collection, Query, QueryFamily, QueryFont, QueryStatus};
 pub use fallback::FallbackKey;
 pub use family::{FamilyId, FamilyInfo};
 pub use font::{AxisInfo, FontInfo, FontInfoOverride, Synthesis};
-pub use jobs::{bytes, random};
 pub use linebender_resource_handle::Blob;
 pub use parlance::{FontStyle, FontWeight, FontWidth, GenericFamily, Language, Script};
 pub use source_cache::SourceCache;
 
 pub(crate) use core::sync::atomic::AtomicU64 as AtomicCounter;
 
+pub mod as_plain;
 pub mod call;
 pub mod describe;
 pub mod families;
-pub mod fonts;
+pub mod lists;
 pub mod offers;
+pub mod overrides;
 pub mod pairs;
 
 #[cfg(test)]
 mod beside;
+#[cfg(test)]
+#[path = "../checksums.rs"]
+mod checksums;
+#[cfg(test)]
+mod pinned;

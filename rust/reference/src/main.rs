@@ -2,8 +2,8 @@
 
 use std::{env, fs, io, path::PathBuf, process::ExitCode, time::Instant};
 
-use jobs::list;
-use reference::{describe, families, fonts, offers, pairs};
+use jobs::{font_list, list};
+use reference::{describe, families, lists, offers, pairs};
 
 const USAGE: &str = "\
 usage:
@@ -83,13 +83,13 @@ fn run() -> Option<io::Result<()>> {
     let seed = options.seed.unwrap_or(SEED);
     Some(match command.as_str() {
         "fonts" => {
-            let list = fonts::list(seed);
+            let list = font_list::list(seed);
             if options.labels {
                 for (number, (label, _)) in list.fonts.iter().enumerate() {
                     println!("{number} {label}");
                 }
             }
-            fonts::write(&options.out?, &list)
+            lists::fonts(&options.out?, &list)
         }
         "families" => {
             let cases = families::cases(seed, options.count.unwrap_or(COUNT));

@@ -4,59 +4,35 @@
 //! the plain reading understood them.
 
 use std::{
-    fmt::Write as _,
-    fs, io,
+    io,
     panic::{self, AssertUnwindSafe},
     path::{Path, PathBuf},
     sync::Arc,
 };
 
 use jobs::{
+    bytes::hex,
+    counts,
     damage::Expected,
     layout::{self, Job, Request},
     list::Case,
 };
-use plain::offers::OUTPUT;
-use read_fonts::FontRef;
+use plain::{Offer, job, lines, offers::OUTPUT};
 
 use crate::{
-    Attributes, CharmapIndex, Collection, FamilyId, FamilyInfo, FontInfo, FontWeight, FontWidth,
-    QueryStatus, SourceCache, describe, families,
+    Attributes, CharmapIndex, Collection, FamilyId, FamilyInfo, FontWeight, FontWidth, QueryFont,
+    QueryStatus, SourceCache, as_plain, describe, families,
     family_name::{FamilyName, FamilyNameMap},
+    lists,
     source::{SourceId, SourceInfo, SourceKind},
 };
 
-/// Most families of a job.
-const FAMILIES: usize = 64;
-
-/// What one offer says, in the original's words and in those of the plain reading.
-#[derive(Clone, PartialEq, Eq, Debug)]
-struct Offer {
-    family: u16,
-    place: u16,
-    embolden: bool,
-    skew: i32,
-    /// Tags and the bits of their values.
-    settings: Vec<([u8; 4], u32)>,
-    /// File offset, symbol and Mac Roman.
-    charmap: (u32, bool, bool),
-}
-
 /// What has been compared.
-#[derive(Copy, Clone, Default, PartialEq, Eq, Debug)]
+#[derive(Copy, Clone, Default)]
 pub struct Counts {
-    pub jobs: u64,
-    pub accepted: u64,
-    /// By the table's number.
-    pub refused: [u64; 30],
-    /// Jobs whose refusal is known by how they were built.
-    pub known: u64,
+    pub all: counts::Counts,
     pub faces: u64,
     pub families: u64,
-    pub requests: u64,
-    pub offers: u64,
-    /// Offers with embolden, a skew, or settings.
-    pub synthesized: u64,
     /// Requests whose list is as long as its most.
     pub full: u64,
 }
@@ -73,7 +49,7 @@ impl Default for Harness {
     fn default() -> Self {
         let mut map = FamilyNameMap::default();
         Self {
-            names: (0..FAMILIES)
+            names: (0..job::FAMILIES)
                 .map(|number| map.get_or_insert(&format!("family {number}")))
                 .collect(),
             nowhere: PathBuf::from("no such folder/no such font").into(),
@@ -86,20 +62,16 @@ impl Harness {
     /// Compares the two on one job and gives its lines, or says where they
     /// differ.
     pub fn compare(&mut self, case: &Case) -> Result<Lines, String> {
-        self.counts.jobs += 1;
         let bytes = &case.bytes[..];
         let (number, position) = plain::check(bytes);
         fonts_agree(bytes, number, position as usize)?;
         known(number, position as usize, case.expected)?;
-        if case.expected != Expected::Unknown {
-            self.counts.known += 1;
-        }
+        let counts = &mut self.counts.all;
+        counts.job(case.expected, number, position as usize);
         if number != 0 {
-            self.counts.refused[number as usize] += 1;
             refused_calls(bytes, number)?;
             return Ok(Lines::of(format!("refused {number} {position}\n")));
         }
-        self.counts.accepted += 1;
         let lines = self.compare_offers(bytes)?;
         if lines.printed != plain::text(bytes) {
             return Err("the lines differ".into());
@@ -108,7 +80,7 @@ impl Harness {
     }
 
     fn compare_offers(&mut self, bytes: &[u8]) -> Result<Lines, String> {
-        let job = layout::parts(bytes);
+        let job = parts(bytes)?;
         if layout::write(&job).bytes != bytes {
             return Err("accepted, but its parts are written down as another job".into());
         }
@@ -119,25 +91,19 @@ impl Harness {
         let mut lines = Lines::of(format!("requests {}\n", job.requests.len()));
         for (number, request) in job.requests.iter().enumerate() {
             let by_original = original.offers(request);
-            let by_plain: Vec<Offer> = plain::offers(&read, &read.requests[number])
-                .iter()
-                .map(offer_of_plain)
-                .collect();
-            if by_original != by_plain {
+            let by_plain = plain::offers(&read, &read.requests[number]);
+            if records(&by_original) != records(&by_plain) {
                 return Err(format!(
                     "request {number}:\n the original {by_original:?}\n plain {by_plain:?}"
                 ));
             }
-            self.counts.requests += 1;
-            self.counts.offers += by_original.len() as u64;
+            self.counts.all.request(&records(&by_original));
             self.counts.full += u64::from(by_original.len() == usize::from(request.most));
             for offer in &by_original {
-                let any = offer.embolden || offer.skew != 0 || !offer.settings.is_empty();
-                self.counts.synthesized += u64::from(any);
                 lines.put(number, offer);
             }
             // The call, at both ends of one list in a job.
-            if number as u64 == self.counts.jobs % job.requests.len() as u64 {
+            if number as u64 == self.counts.all.jobs % job.requests.len() as u64 {
                 calls(bytes, number as u32, &by_original)?;
             }
         }
@@ -151,24 +117,23 @@ impl Harness {
 
     /// The records of every request's offers by the original, of a job that is accepted.
     pub fn records(&self, bytes: &[u8]) -> Result<Vec<Vec<[u8; OUTPUT]>>, String> {
-        let job = layout::parts(bytes);
+        let job = parts(bytes)?;
         let mut original = self.original(&job)?;
-        let of_request = |request| original.offers(request).iter().map(record).collect();
+        let of_request = |request| records(&original.offers(request));
         Ok(job.requests.iter().map(of_request).collect())
     }
 
     /// The original's families of a job.
-    fn original(&self, job: &Job) -> Result<Original, String> {
+    fn original(&self, job: &Job<&[u8]>) -> Result<Original, String> {
         let mut faces = Vec::new();
         for face in &job.faces {
-            let mut info = describe::read(&face.font).map_err(|n| format!("a font: {n}"))?;
-            if !face.held {
+            let info = if face.held {
+                describe::read(face.font)
+            } else {
                 let kind = SourceKind::Path(self.nowhere.clone());
-                let source = SourceInfo::new(SourceId::new(), kind);
-                let font = FontRef::from_index(&face.font, 0).map_err(|_| "a font: 21")?;
-                info = FontInfo::from_font_ref(&font, source, 0).ok_or("a font: 22")?;
-            }
-            faces.push(info);
+                describe::read_from(face.font, SourceInfo::new(SourceId::new(), kind))
+            };
+            faces.push(info.map_err(|number| format!("a font: {number}"))?);
         }
         for given in &job.overrides {
             families::apply(&mut faces[usize::from(given.face)], given);
@@ -184,7 +149,7 @@ impl Harness {
             let charmaps = family
                 .fonts()
                 .iter()
-                .map(|font| (font.charmap_index(), describe::charmap_fields(font)))
+                .map(|font| (font.charmap_index(), describe::charmap(font)))
                 .collect();
             original.families.push((family.id(), charmaps));
             original.collection.add_family(family);
@@ -194,13 +159,15 @@ impl Harness {
 }
 
 /// An index of the original and its three fields.
-type Charmap = (CharmapIndex, (u32, bool, bool));
+type Charmap = (CharmapIndex, plain::font::CharmapIndex);
+
+/// A family's identifier and, by place, the charmap's fields.
+type Family = (FamilyId, Vec<Charmap>);
 
 struct Original {
     collection: Collection,
     cache: SourceCache,
-    /// For each family its identifier and, by place, the charmap's fields.
-    families: Vec<(FamilyId, Vec<Charmap>)>,
+    families: Vec<Family>,
 }
 
 impl Original {
@@ -228,26 +195,7 @@ impl Original {
             weight(request.weight),
         ));
         query.matches_with(|font| {
-            let (id, place) = font.family;
-            let family = families
-                .iter()
-                .position(|(other, _)| *other == id)
-                .expect("a family of the job");
-            let (index, charmap) = families[family].1[place];
-            assert_eq!(font.charmap_index, index, "the index of the offered face");
-            let synthesis = &font.synthesis;
-            out.push(Offer {
-                family: family as u16,
-                place: place as u16,
-                embolden: synthesis.embolden(),
-                skew: synthesis.skew().unwrap_or(0.0) as i32,
-                settings: synthesis
-                    .variation_settings()
-                    .iter()
-                    .map(|(tag, value)| (tag.to_be_bytes(), value.to_bits()))
-                    .collect(),
-                charmap,
-            });
+            out.push(offer(families, font));
             if out.len() == most {
                 QueryStatus::Stop
             } else {
@@ -255,6 +203,23 @@ impl Original {
             }
         });
         out
+    }
+}
+
+/// An offer of the original, by the numbers of the job.
+fn offer(families: &[Family], font: &QueryFont) -> Offer {
+    let (id, place) = font.family;
+    let family = families
+        .iter()
+        .position(|(other, _)| *other == id)
+        .expect("a family of the job");
+    let (index, charmap) = families[family].1[place];
+    assert_eq!(font.charmap_index, index, "the index of the offered face");
+    Offer {
+        family: family as u16,
+        place: place as u16,
+        synthesis: as_plain::synthesis(&font.synthesis),
+        charmap,
     }
 }
 
@@ -266,24 +231,14 @@ fn weight(bits: u32) -> FontWeight {
     FontWeight::new(f32::from_bits(bits))
 }
 
-fn offer_of_plain(offer: &plain::Offer) -> Offer {
-    Offer {
-        family: offer.family,
-        place: offer.place,
-        embolden: offer.synthesis.embolden,
-        skew: i32::from(offer.synthesis.skew),
-        settings: offer
-            .synthesis
-            .settings
-            .iter()
-            .map(|(tag, value)| (*tag, value.0))
-            .collect(),
-        charmap: (
-            offer.charmap.offset,
-            offer.charmap.symbol,
-            offer.charmap.mac_roman,
-        ),
-    }
+/// The parts of a job that was accepted.
+fn parts(bytes: &[u8]) -> Result<Job<&[u8]>, String> {
+    layout::parts(bytes).ok_or_else(|| "accepted, but it does not keep the layout".into())
+}
+
+/// The 40 bytes of each offer, so that all numbers are compared by their bits.
+fn records(offers: &[Offer]) -> Vec<[u8; OUTPUT]> {
+    offers.iter().map(Offer::record).collect()
 }
 
 /// What is printed for a job.
@@ -304,39 +259,12 @@ impl Lines {
         }
     }
 
-    fn put(&mut self, number: usize, offer: &Offer) {
-        let embolden = if offer.embolden { 'b' } else { '-' };
-        let place = format!("{number} {} {}", offer.family, offer.place);
-        let start = format!("{place} {embolden} {}", offer.skew);
-        let (offset, symbol, mac) = offer.charmap;
-        let index = format!("{offset} {} {}", u8::from(symbol), u8::from(mac));
-        let mut end = String::new();
-        for (tag, bits) in &offer.settings {
-            let _ = write!(end, " {}={bits:08x}", tag.escape_ascii());
+    fn put(&mut self, request: usize, offer: &Offer) {
+        for (text, indexed) in [(&mut self.printed, false), (&mut self.indexed, true)] {
+            text.push_str(&lines::offer(request, offer, indexed));
+            text.push('\n');
         }
-        let _ = writeln!(self.printed, "{start}{end}");
-        let _ = writeln!(self.indexed, "{start} {index}{end}");
     }
-}
-
-/// The 40 bytes of an offer, in the order of section 6.
-fn record(offer: &Offer) -> [u8; OUTPUT] {
-    let mut out = Vec::with_capacity(OUTPUT);
-    out.extend(offer.family.to_be_bytes());
-    out.extend(offer.place.to_be_bytes());
-    out.push(offer.embolden as u8);
-    out.push(offer.skew as i8 as u8);
-    out.push(offer.settings.len() as u8);
-    out.push(0);
-    for (tag, bits) in &offer.settings {
-        out.extend(tag);
-        out.extend(bits.to_be_bytes());
-    }
-    out.resize(32, 0);
-    let (offset, symbol, mac) = offer.charmap;
-    out.extend(offset.to_be_bytes());
-    out.extend([symbol as u8, mac as u8, 0, 0]);
-    out.try_into().expect("40 bytes")
 }
 
 /// The plain offer call against a list: its first, its last, one past it.
@@ -347,7 +275,7 @@ fn calls(bytes: &[u8], request: u32, list: &[Offer]) -> Result<(), String> {
         let mut out = untouched;
         let answer = plain::offer(bytes, request, number, &mut out);
         let expected = match list.get(number as usize) {
-            Some(offer) => (0, record(offer)),
+            Some(offer) => (0, offer.record()),
             None => (1, untouched),
         };
         if (answer, out) != expected {
@@ -429,13 +357,10 @@ pub fn write(folder: &Path, cases: impl Iterator<Item = Case>) -> io::Result<Cou
     let mut harness = Harness::default();
     for case in cases {
         let lines = compare(&mut harness, &case)?;
-        stdin.extend((case.bytes.len() as u32).to_be_bytes());
-        stdin.extend(&case.bytes);
+        lists::put(&mut stdin, &case.bytes);
         stdout.push_str(&lines.indexed);
     }
-    fs::create_dir_all(folder)?;
-    fs::write(folder.join("stdin"), stdin)?;
-    fs::write(folder.join("stdout"), stdout)?;
+    lists::write(folder, &stdin, &stdout)?;
     Ok(harness.counts)
 }
 
@@ -453,36 +378,26 @@ pub fn compare(harness: &mut Harness, case: &Case) -> io::Result<Lines> {
     let answer = panic::catch_unwind(AssertUnwindSafe(|| harness.compare(case)));
     let answer = answer.unwrap_or_else(|_| Err("a panic".into()));
     answer.map_err(|difference| {
-        let mut text = format!("difference in job {:?}: {difference}\njob ", case.label);
-        for byte in &case.bytes {
-            let _ = write!(text, "{byte:02x}");
-        }
-        io::Error::other(text)
+        let (label, job) = (&case.label, hex(&case.bytes));
+        io::Error::other(format!(
+            "difference in job {label:?}: {difference}\njob {job}"
+        ))
     })
 }
 
 impl Counts {
     /// The counts as lines.
     pub fn text(&self) -> String {
-        let mut text = format!("jobs {} accepted {}\n", self.jobs, self.accepted);
-        text.push_str("refused");
-        for (number, count) in self.refused.iter().enumerate() {
-            if *count != 0 {
-                let _ = write!(text, " {number}:{count}");
-            }
-        }
-        let _ = write!(
-            text,
-            "\nanswers known by construction {}\nfaces {} families {} requests {}\noffers {} with synthesis {} lists as long as their most {}\nno difference\n",
-            self.known,
+        let all = &self.all;
+        format!(
+            "{}faces {} families {} requests {}\n{} lists as long as their most {}\nno difference\n",
+            all.jobs_text(),
             self.faces,
             self.families,
-            self.requests,
-            self.offers,
-            self.synthesized,
+            all.requests,
+            all.offers_text(),
             self.full,
-        );
-        text
+        )
     }
 }
 
@@ -499,7 +414,7 @@ mod tests {
 
     #[test]
     fn no_difference() {
-        let counts = compare_all(cases(11, 3000)).unwrap();
+        let counts = compare_all(cases(11, 3000)).unwrap().all;
         assert!(counts.accepted > 1000);
         for number in (18..=27).filter(|number| *number != 23) {
             assert!(counts.refused[number] > 10, "{number}");

@@ -4,7 +4,7 @@
 use std::{fmt::Write as _, fs, io, path::Path};
 
 use jobs::{
-    bytes::filler,
+    bytes::{filler, hex},
     pairs::{self, Call},
 };
 
@@ -27,9 +27,7 @@ fn put_call(text: &mut String, job: &[u8], (request, number, size): Call) {
     let answer = plain::offer(job, request, number, &mut out[..size]);
     let _ = write!(text, " {request} {number} {size}: {answer} ");
     let written = if answer == 0 { size } else { 0 };
-    for byte in &out[..written] {
-        let _ = write!(text, "{byte:02x}");
-    }
+    text.push_str(&hex(&out[..written]));
     if written != 0 {
         text.push(' ');
     }

@@ -3,7 +3,7 @@
 use std::{path::Path, sync::Arc};
 
 use super::*;
-use jobs::{families::FacePlan, layout::Style};
+use jobs::{bytes, families::FacePlan, layout::Style};
 
 use crate::{
     Attributes, FontInfo, FontStyle, FontWeight, FontWidth,
@@ -64,11 +64,8 @@ fn example_of_section_7() {
 fn not_held() {
     let path: Arc<Path> = Path::new("no such file").into();
     let source = SourceInfo::new(SourceId::new(), SourceKind::Path(path));
-    let bytes = crate::bytes::font(
-        crate::bytes::START,
-        &[(*b"cmap", crate::bytes::plain_cmap())],
-    );
-    let font = read_fonts::FontRef::from_index(&bytes, 0).unwrap();
+    let file = bytes::font(bytes::START, &[(*b"cmap", bytes::plain_cmap())]);
+    let font = read_fonts::FontRef::from_index(&file, 0).unwrap();
     let lacking = FontInfo::from_font_ref(&font, source, 0).unwrap();
     let mut names = FamilyNameMap::default();
     let family = FamilyInfo::new(names.get_or_insert("a"), [lacking, face(700.0)]);

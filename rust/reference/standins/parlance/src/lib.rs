@@ -1,4 +1,4 @@
-//! Stand-in for `parlance`: the attributes as 01 gives them.
+//! Stand-in for `parlance`: the attributes as docs/GUIDE.md gives them.
 //!
 //! Equality is that of the single-precision numbers, so both zeros are equal,
 //! and an unstated angle is unequal to every stated one.

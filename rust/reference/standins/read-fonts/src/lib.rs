@@ -1,4 +1,5 @@
-//! Stand-in for `read-fonts`: font tables with the meanings of section 2 of 01.
+//! Stand-in for `read-fonts`: font tables with the meanings of
+//! docs/GUIDE.md, section 2.
 //!
 //! - The first record with a tag counts.
 //! - A table that reaches past the file, or is shorter than needed, is absent.
@@ -54,11 +55,11 @@ impl<'a> FontData<'a> {
 /// Why something could not be read. The original only asks whether.
 #[derive(Copy, Clone, PartialEq, Eq, Debug)]
 pub enum ReadError {
-    /// The file is no font of 01: bad start or directory past the file.
+    /// The file is no font: bad start or directory past the file.
     BadFont,
-    /// The table is absent as 01 understands it.
+    /// The table is absent as section 2 has it.
     Absent,
-    /// A part that 01 gives no meaning to.
+    /// A part that section 2 gives no meaning to.
     OutOfScope,
 }
 

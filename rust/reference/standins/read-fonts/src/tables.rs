@@ -1,4 +1,4 @@
-//! The five tables that 01 reads.
+//! The five tables that are read (docs/GUIDE.md, section 2).
 //!
 //! A table value is made only from bytes that are long enough, so that the
 //! reads of fixed fields always succeed.

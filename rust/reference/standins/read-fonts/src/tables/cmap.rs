@@ -1,7 +1,7 @@
 //! cmap, at least 4 bytes: the choice of a subtable.
 //!
-//! 01 gives no meaning to the subtables themselves, so reading one always
-//! fails here.
+//! The subtables themselves have no meaning here, so reading one always
+//! fails.
 
 use super::u16_field;
 use crate::{
@@ -57,7 +57,7 @@ pub struct EncodingRecord {
 }
 
 impl EncodingRecord {
-    /// 0 is the best class; none for a pair that 01 does not name.
+    /// 0 is the best class; none for a pair of no class.
     fn class(&self) -> Option<u8> {
         match (self.platform, self.encoding) {
             (3, 10) | (0, 4) | (0, 6) => Some(0),

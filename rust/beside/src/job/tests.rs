@@ -1,0 +1,283 @@
+//! Right calls pass; wrong ones are told.
+
+use std::{env, process::Command};
+
+use super::*;
+use crate::calls::{self, PROVED};
+use jobs::list;
+
+fn cases() -> impl Iterator<Item = Case> {
+    list::made().into_iter().chain(list::random(5).take(400))
+}
+
+fn compare(calls: Calls) -> Result<Counts, String> {
+    let mut sides = Sides::new(calls);
+    for case in cases() {
+        sides.compare(&case)?;
+    }
+    Ok(sides.counts)
+}
+
+#[test]
+fn no_difference() {
+    let counts = compare(PROVED).unwrap().all;
+    assert!(counts.accepted > 300 && counts.offers > 10_000);
+    assert!((18..=27).all(|number| counts.refused[number] > 0));
+}
+
+/// The wrong calls are told; gives what is said.
+fn told(name: &str, calls: Calls) -> String {
+    let told = compare(calls).expect_err(name);
+    assert!(told.contains("difference in job"), "{name}: {told}");
+    told
+}
+
+type Offer = fn(&[u8], u32, u32, &mut [u8]) -> Answer;
+
+/// Each wrong call is told, with what each side says.
+fn offer_calls_are_told(wrong: &[(&str, Offer)]) {
+    for (name, offer) in wrong {
+        let calls = Calls {
+            offer: *offer,
+            ..PROVED
+        };
+        let told = told(name, calls);
+        assert!(told.contains("the guide (plain): "), "{name}: {told}");
+        assert!(told.contains("the proved code: "), "{name}: {told}");
+    }
+}
+
+#[test]
+fn wrong_records_are_told() {
+    offer_calls_are_told(&[
+        ("a byte of the record", |job, request, offer, out| {
+            let answer = calls::offer(job, request, offer, out);
+            if answer.number == 0 {
+                out[3] ^= 1;
+            }
+            answer
+        }),
+        ("the last byte", |job, request, offer, out| {
+            let answer = calls::offer(job, request, offer, out);
+            if answer.number == 0 {
+                out[39] = 1;
+            }
+            answer
+        }),
+        ("a setting's bits", |job, request, offer, out| {
+            let answer = calls::offer(job, request, offer, out);
+            if answer.number == 0 && out[6] > 0 {
+                out[15] ^= 1;
+            }
+            answer
+        }),
+    ]);
+}
+
+/// Output that is not written, or written without an offer.
+#[test]
+fn wrong_writing_is_told() {
+    offer_calls_are_told(&[
+        ("unwritten", |job, request, offer, out| {
+            let mut other = [0; OFFER_BYTES];
+            let length = out.len().min(OFFER_BYTES);
+            calls::offer(job, request, offer, &mut other[..length])
+        }),
+        ("written past the list", |job, request, offer, out| {
+            let answer = calls::offer(job, request, offer, out);
+            if answer.number == 1 {
+                out[0] = 0;
+            }
+            answer
+        }),
+        ("written where refused", |job, request, offer, out| {
+            let answer = calls::offer(job, request, offer, out);
+            if answer.number >= 16 {
+                out[38] = 0;
+            }
+            answer
+        }),
+    ]);
+}
+
+#[test]
+fn wrong_offers_are_told() {
+    offer_calls_are_told(&[
+        (
+            "the first offer alone",
+            |job, request, offer, out| match offer {
+                0 => calls::offer(job, request, 0, out),
+                _ => Answer::of(1),
+            },
+        ),
+        ("the next offer", |job, request, offer, out| {
+            calls::offer(job, request, offer.saturating_add(1), out)
+        }),
+        (
+            "the request that is past",
+            |job, request, offer, out| match calls::offer(job, request, offer, out) {
+                Answer { number: 28, .. } => Answer::of(1),
+                answer => answer,
+            },
+        ),
+        ("41 bytes", |job, request, offer, out| {
+            let length = out.len().min(OFFER_BYTES);
+            calls::offer(job, request, offer, &mut out[..length])
+        }),
+    ]);
+}
+
+#[test]
+fn wrong_check_calls_are_told() {
+    type Check = fn(&[u8]) -> Answer;
+    let wrong: [(&str, Check); 6] = [
+        ("the position", |job| {
+            let mut answer = calls::check(job);
+            if answer.number == 26 {
+                answer.position = answer.position.map(|position| position + 1);
+            }
+            answer
+        }),
+        ("no position", |job| Answer {
+            position: None,
+            ..calls::check(job)
+        }),
+        ("the number", |job| match calls::check(job) {
+            Answer {
+                number: 22,
+                position,
+            } => Answer {
+                number: 21,
+                position,
+            },
+            answer => answer,
+        }),
+        ("a position of an accepted job", |job| {
+            let mut answer = calls::check(job);
+            answer.position = answer.position.or(Some(0));
+            answer
+        }),
+        ("all accepted", |_| Answer::of(0)),
+        ("all refused", |_| Answer {
+            number: 18,
+            position: Some(0),
+        }),
+    ];
+    for (name, check) in wrong {
+        told(name, Calls { check, ..PROVED });
+    }
+}
+
+/// A position with 17, or another refusal with the offer call than with the check, is told.
+#[test]
+fn wrong_answers_to_long_jobs_are_told() {
+    let over = list::largest().nth(1).expect("a job that is too long");
+    assert_eq!(calls::check(&over.bytes), Answer::of(17));
+    let check = |job: &[u8]| match calls::check(job) {
+        Answer { number: 17, .. } => Answer {
+            number: 17,
+            position: Some(0),
+        },
+        answer => answer,
+    };
+    let offer =
+        |job: &[u8], request, offer, out: &mut [u8]| match calls::offer(job, request, offer, out) {
+            Answer { number: 17, .. } => Answer::of(18),
+            answer => answer,
+        };
+    for calls in [Calls { check, ..PROVED }, Calls { offer, ..PROVED }] {
+        assert!(Sides::new(calls).compare(&over).is_err());
+    }
+    Sides::new(PROVED).compare(&over).unwrap();
+}
+
+/// A wrong answer on one kind of job is told with a small job of that kind.
+#[test]
+fn smallest_job_is_told() {
+    let offer = |job: &[u8], request: u32, offer: u32, out: &mut [u8]| {
+        let answer = calls::offer(job, request, offer, out);
+        if answer.number == 0 && out[4] == 1 {
+            out[4] = 0;
+        }
+        answer
+    };
+    let mut sides = Sides::new(Calls { offer, ..PROVED });
+    let told = list::random(5)
+        .filter(|case| case.bytes.len() > 3000)
+        .find_map(|case| sides.compare(&case).err())
+        .expect("an offer that is emboldened");
+    assert!(size_told(&told) < 200, "{told}");
+}
+
+/// The bytes of the job that a difference is told with.
+fn size_told(told: &str) -> usize {
+    let size = told.split_once("job of ").expect("a size").1;
+    let size = size.split(' ').next().expect("a number");
+    size.parse().expect("a number")
+}
+
+/// What was known when a job was built is held against the answer.
+#[test]
+fn wrong_expectation_is_told() {
+    let mut case = list::made().swap_remove(0);
+    case.expected = Expected::Refused(27, 0);
+    let told = Sides::new(PROVED).compare(&case).unwrap_err();
+    assert!(told.contains("by how it was built"), "{told}");
+}
+
+/// A difference that has nothing to do with the job's size is told with a small
+/// one, though it is met in one of the most bytes.
+#[test]
+fn large_jobs_shrink() {
+    let offer = |job: &[u8], request: u32, offer: u32, out: &mut [u8]| {
+        let answer = calls::offer(job, request, offer, out);
+        if answer.number == 0 {
+            out[4] ^= 1;
+        }
+        answer
+    };
+    let case = list::largest().next().expect("a job of the most bytes");
+    let mut sides = Sides::new(Calls { offer, ..PROVED });
+    let told = sides.compare(&case).unwrap_err();
+    assert!(size_told(&told) < 200, "{told}");
+}
+
+/// Kilobytes that a difference at the most bytes may take: 8 jobs of them.
+const MOST_KILOBYTES: u64 = 8 * 16 * 1024;
+
+/// A difference that stays only while the job is about as large as it may be,
+/// so that everything is tried. It is run by itself, by the next test.
+#[test]
+#[ignore = "run by itself, for its memory"]
+fn difference_at_the_most_bytes() {
+    let offer = |job: &[u8], request: u32, offer: u32, out: &mut [u8]| {
+        let answer = calls::offer(job, request, offer, out);
+        if answer.number == 0 && job.len() > 16_000_000 {
+            out[39] = 1;
+        }
+        answer
+    };
+    let case = list::largest().next().expect("a job of the most bytes");
+    let mut sides = Sides::new(Calls { offer, ..PROVED });
+    let told = sides.compare(&case).unwrap_err();
+    let status = std::fs::read_to_string("/proc/self/status").unwrap();
+    let peak = status.lines().find(|line| line.starts_with("VmHWM:"));
+    println!("told with a job of {} bytes", size_told(&told));
+    println!("{}", peak.expect("a line of the peak"));
+}
+
+/// The search for a smaller job holds a few jobs at a time.
+#[test]
+fn memory_of_a_large_difference() {
+    let output = Command::new(env::current_exe().unwrap())
+        .args(["--exact", "job::tests::difference_at_the_most_bytes"])
+        .args(["--ignored", "--nocapture"])
+        .output()
+        .unwrap();
+    let said = String::from_utf8_lossy(&output.stdout);
+    assert!(output.status.success(), "{said}");
+    let peak = said.split_once("VmHWM:").expect("the peak").1;
+    let peak = peak.split_whitespace().next().expect("a number");
+    let peak: u64 = peak.parse().expect("a number");
+    assert!(peak < MOST_KILOBYTES, "{peak} kilobytes: {said}");
+}
