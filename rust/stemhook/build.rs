@@ -1,80 +1,84 @@
-//! Links the static library of the proved picker.
+//! Links the static library of the proved picker. It makes none: that is for
+//! the repository's script `tools/static-library`.
 //!
-//! The library is `target/staticlib/libstemhook.a` at the repository's root,
-//! or the file that STEMHOOK_LIB names (a relative path counts from this
-//! folder). Where the first is missing and `rt` is there, the repository's
-//! script `tools/static-library` makes it.
+//! The library is the file that STEMHOOK_LIB names (a relative path counts
+//! from this folder); or `build/libstemhook.a` at the repository's root; or,
+//! where that is missing, the one that is installed, as pkg-config has it.
 
 use std::{
     env,
     path::{Path, PathBuf},
-    process::{Command, Stdio},
+    process::Command,
 };
 
-const DEFAULT: &str = "target/staticlib/libstemhook.a";
-const SCRIPT: &str = "tools/static-library";
+const DEFAULT: &str = "build/libstemhook.a";
 
 fn main() {
     println!("cargo::rerun-if-changed=build.rs");
-    println!("cargo::rerun-if-env-changed=STEMHOOK_LIB");
-    if let Err(message) = library().and_then(|library| link(&library)) {
+    // A library that is made later takes the place of an installed one.
+    println!("cargo::rerun-if-changed=../../{DEFAULT}");
+    for name in ["STEMHOOK_LIB", "PKG_CONFIG_PATH"] {
+        println!("cargo::rerun-if-env-changed={name}");
+    }
+    let linked = known_target()
+        .and_then(|()| library())
+        .and_then(|library| link(&library));
+    if let Err(message) = linked {
         // Ends the build, with the message.
         println!("cargo::error={message}");
     }
 }
 
-/// The library's file, made where it can be.
-fn library() -> Result<PathBuf, String> {
-    let package =
-        PathBuf::from(env::var_os("CARGO_MANIFEST_DIR").ok_or("CARGO_MANIFEST_DIR is not set")?);
+/// The library is for one kind of machine.
+fn known_target() -> Result<(), String> {
     let target = |name: &str| env::var(format!("CARGO_CFG_TARGET_{name}")).unwrap_or_default();
-    if target("ARCH") != "x86_64" || target("OS") != "linux" {
-        return Err("the static library is for x86-64 Linux alone".into());
+    match (target("ARCH").as_str(), target("OS").as_str()) {
+        ("x86_64", "linux") => Ok(()),
+        (arch, os) => Err(format!(
+            "the static library is for x86-64 Linux alone, and the target is {arch} {os}"
+        )),
     }
+}
+
+/// The library's file.
+fn library() -> Result<PathBuf, String> {
+    let package = env::var_os("CARGO_MANIFEST_DIR").ok_or("CARGO_MANIFEST_DIR is not set")?;
+    let package = PathBuf::from(package);
     if let Some(given) = env::var_os("STEMHOOK_LIB") {
-        let library = package.join(given);
-        return if library.is_file() {
-            Ok(library)
-        } else {
-            Err(format!(
-                "STEMHOOK_LIB names {}, which is no file",
-                library.display()
-            ))
-        };
+        let file = package.join(given);
+        let known = file.is_file().then(|| file.clone());
+        return known.ok_or_else(|| {
+            format!(
+                "STEMHOOK_LIB names {}, which is no file: run tools/static-library in \
+                 Stemhook's repository and name the {DEFAULT} that it writes",
+                file.display()
+            )
+        });
     }
-    let root = package.join("../..");
-    let library = root.join(DEFAULT);
-    if !library.is_file() {
-        make(&root)?;
-    }
-    if library.is_file() {
-        Ok(library)
-    } else {
-        Err(format!("{SCRIPT} ended well but wrote no {DEFAULT}"))
-    }
+    let default = package.join("../..").join(DEFAULT);
+    let found = default.is_file().then_some(default).or_else(installed);
+    found.ok_or_else(|| {
+        format!(
+            "{DEFAULT} is missing: run tools/static-library in the repository's root, which \
+             proves the picker and writes it (needs the Rattle toolchain, takes minutes); or \
+             name a library by STEMHOOK_LIB"
+        )
+    })
 }
 
-/// Runs the script, if the toolchain is there.
-fn make(root: &Path) -> Result<(), String> {
-    let toolchain = Command::new("rt")
-        .arg("version")
-        .stdout(Stdio::null())
-        .stderr(Stdio::null())
-        .status();
-    if !toolchain.is_ok_and(|status| status.success()) {
-        return Err(format!(
-            "{DEFAULT} is missing at the repository's root and there is no `rt` to make it: \
-             run {SCRIPT} on a machine with the Rattle toolchain, or name a library by STEMHOOK_LIB"
-        ));
-    }
-    match Command::new(root.join(SCRIPT)).status() {
-        Ok(status) if status.success() => Ok(()),
-        Ok(_) => Err(format!("{SCRIPT} failed: run it by hand to see why")),
-        Err(error) => Err(format!("{SCRIPT} cannot be run: {error}")),
-    }
+/// The library that tools/install has put where pkg-config finds it.
+fn installed() -> Option<PathBuf> {
+    let asked = Command::new("pkg-config")
+        .args(["--variable=libdir", "stemhook"])
+        .output()
+        .ok()?;
+    let folder = String::from_utf8(asked.stdout).ok()?;
+    let file = Path::new(folder.trim_end()).join("libstemhook.a");
+    (asked.status.success() && file.is_file()).then_some(file)
 }
 
-/// Tells cargo to link the library, and the tests where it is.
+/// Tells cargo to link the library, and the build scripts of dependents where
+/// it is: they have DEP_STEMHOOK_LIBRARY.
 fn link(library: &Path) -> Result<(), String> {
     let library = library
         .canonicalize()
@@ -87,6 +91,6 @@ fn link(library: &Path) -> Result<(), String> {
     println!("cargo::rerun-if-changed={}", library.display());
     println!("cargo::rustc-link-search=native={}", folder.display());
     println!("cargo::rustc-link-lib=static={name}");
-    println!("cargo::rustc-env=STEMHOOK_LIB_FILE={}", library.display());
+    println!("cargo::metadata=library={}", library.display());
     Ok(())
 }

@@ -1,7 +1,7 @@
 /* Reads a job from standard input and prints its offers, or why it is refused: `requests N`, then for each offer the
  * request, family, place, b or -, skew, and tag=bits for each setting.
  *
- *     cc -I include examples/offers.c ../../target/staticlib/libstemhook.a -o target/offers && target/offers <JOB
+ *     cc offers.c $(pkg-config --cflags --libs stemhook) -o offers && ./offers <JOB
  */
 #include <inttypes.h>
 #include <stdio.h>
@@ -59,7 +59,7 @@ int main(void)
 {
     /* One byte more than a job may have, so that a longer one is refused. */
     size_t space = (size_t)STEMHOOK_JOB_BYTES + 1;
-    uint8_t *job = malloc(space);
+    uint8_t *job = (uint8_t *)malloc(space);
     size_t length;
 
     if (job == NULL) {
@@ -74,5 +74,9 @@ int main(void)
     }
     print_job(job, length);
     free(job);
-    return fflush(stdout) == 0 ? 0 : 1;
+    if (fflush(stdout) != 0 || ferror(stdout)) {
+        perror("offers: standard output");
+        return 1;
+    }
+    return 0;
 }

@@ -1,18 +1,21 @@
 /* The calls of the proved font face picker Stemhook, for C and C++.
  *
- * Link target/staticlib/libstemhook.a, which tools/static-library makes (x86-64 Linux). The library keeps nothing
- * between calls and allocates nothing: calls may run at the same time in several threads.
+ * Link libstemhook.a: -lstemhook, or the flags of `pkg-config --cflags --libs stemhook`. It is for x86-64 Linux. The
+ * library keeps nothing between calls and allocates nothing: calls may run at the same time in several threads.
  *
  * A job is big-endian bytes: faces, overrides, families and requests, each section after a 16-bit count.
  *
- *   face      held byte 0 or 1; 32-bit length; font file
+ *   face      held byte: 1, or 0 for a face that takes part in the choice but is not offered; 32-bit length; font file
  *   override  16-bit face; mask byte (1 width, 2 style, 4 weight); ratio; style; weight; pair count byte; pairs of tag
- *             and value. Fields that are not in the mask are zero.
- *   family    16-bit face count; 16-bit face numbers
- *   request   16-bit most offers; ratio; style; weight; families; fallbacks: each a count byte and 16-bit numbers
+ *             and value. It replaces what the font says of itself: the masked fields, and the defaults of the axes of
+ *             those tags. Fields that are not in the mask are zero. Overrides apply in their order.
+ *   family    16-bit face count; 16-bit face numbers. A face's place is where it stands here.
+ *   request   16-bit most offers, after which the list is cut; ratio; style; weight; families; fallbacks: each a count
+ *             byte and 16-bit numbers. A number that no family has is passed over.
  *
- * A style is a kind byte (0 normal, 1 italic, 2 oblique unstated, 3 oblique with an angle) and an angle, zero unless the
- * kind is 3. Ratio, angle, weight and value are the 32 bits of a single. Everything counts from 0.
+ * A ratio is a width, from 0 to 16, 1 for normal. A style is a kind byte (0 normal, 1 italic, 2 oblique unstated, 3
+ * oblique with an angle) and an angle in degrees, zero unless the kind is 3. Ratio, angle, weight and value are the 32
+ * bits of a single (IEEE 754 binary32), which is finite. Everything counts from 0.
  */
 #ifndef STEMHOOK_H
 #define STEMHOOK_H
@@ -37,20 +40,57 @@ extern "C" {
 #define STEMHOOK_PAST_LIST 1 /* the request has no offer of that number */
 
 /* Refusals. The first that is met counts, reading from left to right; for one field, in this order. */
-#define STEMHOOK_REFUSED_OUTPUT_LENGTH 16    /* the output is not 40 bytes long */
-#define STEMHOOK_REFUSED_JOB_LENGTH 17       /* the job is over 16777216 bytes long */
-#define STEMHOOK_REFUSED_PAST_END 18         /* a field runs past the job's end */
-#define STEMHOOK_REFUSED_COUNT_OVER_LIMIT 19 /* a count is over its limit */
-#define STEMHOOK_REFUSED_HELD_BYTE 20        /* a held byte is not 0 or 1 */
-#define STEMHOOK_REFUSED_FONT_DIRECTORY 21   /* the font has a bad start, or its directory runs past the file */
-#define STEMHOOK_REFUSED_NO_CHARMAP 22       /* the font has no qualifying cmap record */
-#define STEMHOOK_REFUSED_TOO_MANY_AXES 23    /* the font has over 16 axes */
-#define STEMHOOK_REFUSED_NO_SUCH_FACE 24     /* a face number is not in the job */
-#define STEMHOOK_REFUSED_UNKNOWN_OR_SPARE 25 /* a mask or style kind is unknown, or a spare field is not zero */
-#define STEMHOOK_REFUSED_NUMBER_OUTSIDE 26   /* a number is not finite, or a width ratio not from 0 to 16 */
-#define STEMHOOK_REFUSED_BYTES_LEFT 27       /* bytes are left after the job's end */
-#define STEMHOOK_REFUSED_NO_SUCH_REQUEST 28  /* the request is not in the job */
-#define STEMHOOK_REFUSED_FOURTH_SETTING 29   /* synthesis would give a fourth setting */
+#define STEMHOOK_REFUSED_OUTPUT_LENGTH 16
+#define STEMHOOK_REFUSED_JOB_LENGTH 17
+#define STEMHOOK_REFUSED_PAST_END 18
+#define STEMHOOK_REFUSED_COUNT_OVER_LIMIT 19
+#define STEMHOOK_REFUSED_HELD_BYTE 20
+#define STEMHOOK_REFUSED_FONT_DIRECTORY 21
+#define STEMHOOK_REFUSED_NO_CHARMAP 22
+#define STEMHOOK_REFUSED_TOO_MANY_AXES 23
+#define STEMHOOK_REFUSED_NO_SUCH_FACE 24
+#define STEMHOOK_REFUSED_UNKNOWN_OR_SPARE 25
+#define STEMHOOK_REFUSED_NUMBER_OUTSIDE 26
+#define STEMHOOK_REFUSED_BYTES_LEFT 27
+#define STEMHOOK_REFUSED_NO_SUCH_REQUEST 28
+#define STEMHOOK_REFUSED_FOURTH_SETTING 29
+
+/* What a refusal is given for. */
+static inline const char *stemhook_meaning(uint32_t refusal)
+{
+    switch (refusal) {
+    case STEMHOOK_REFUSED_OUTPUT_LENGTH:
+        return "the output is not 40 bytes long";
+    case STEMHOOK_REFUSED_JOB_LENGTH:
+        return "the job is over 16777216 bytes long";
+    case STEMHOOK_REFUSED_PAST_END:
+        return "a field runs past the job's end";
+    case STEMHOOK_REFUSED_COUNT_OVER_LIMIT:
+        return "a count is over its limit";
+    case STEMHOOK_REFUSED_HELD_BYTE:
+        return "a held byte is not 0 or 1";
+    case STEMHOOK_REFUSED_FONT_DIRECTORY:
+        return "the font has a bad start, or its directory runs past the file";
+    case STEMHOOK_REFUSED_NO_CHARMAP:
+        return "the font has no qualifying cmap record";
+    case STEMHOOK_REFUSED_TOO_MANY_AXES:
+        return "the font has over 16 axes";
+    case STEMHOOK_REFUSED_NO_SUCH_FACE:
+        return "a face number is not in the job";
+    case STEMHOOK_REFUSED_UNKNOWN_OR_SPARE:
+        return "a mask or style kind is unknown, or a spare field is not zero";
+    case STEMHOOK_REFUSED_NUMBER_OUTSIDE:
+        return "a number is not finite, or a width ratio not from 0 to 16";
+    case STEMHOOK_REFUSED_BYTES_LEFT:
+        return "bytes are left after the job's end";
+    case STEMHOOK_REFUSED_NO_SUCH_REQUEST:
+        return "the request is not in the job";
+    case STEMHOOK_REFUSED_FOURTH_SETTING:
+        return "synthesis would give a fourth setting";
+    default:
+        return "not in the table of this version";
+    }
+}
 
 /* The check call: 0 for an accepted job, else the position of the refused field times 256, plus the refusal (17 to 27).
  * A font's position is that of its length field; that of 27 is the first byte left; 17 has position 0.

@@ -1,7 +1,5 @@
 //! Width, style and weight, as fonts have them and requests ask for them.
 
-use std::fmt;
-
 /// The angle of an oblique style.
 #[derive(Clone, Copy, Debug, Default, PartialEq)]
 pub enum Angle {
@@ -51,40 +49,5 @@ impl Default for Attributes {
             style: Style::Normal,
             weight: 400.0,
         }
-    }
-}
-
-/// The tag of a variation axis: four bytes.
-///
-/// ```
-/// use stemhook::Tag;
-///
-/// assert_eq!(Tag::WGHT, Tag(*b"wght"));
-/// assert_eq!(Tag::WGHT.to_string(), "wght");
-/// ```
-#[derive(Clone, Copy, Debug, Default, PartialEq, Eq, PartialOrd, Ord, Hash)]
-pub struct Tag(pub [u8; 4]);
-
-impl Tag {
-    /// Width, in percent.
-    pub const WDTH: Self = Self(*b"wdth");
-    /// Weight.
-    pub const WGHT: Self = Self(*b"wght");
-    /// Italic.
-    pub const ITAL: Self = Self(*b"ital");
-    /// Slant, in degrees.
-    pub const SLNT: Self = Self(*b"slnt");
-}
-
-impl From<[u8; 4]> for Tag {
-    fn from(bytes: [u8; 4]) -> Self {
-        Self(bytes)
-    }
-}
-
-/// The four characters; bytes that are no printable ASCII are escaped.
-impl fmt::Display for Tag {
-    fn fmt(&self, f: &mut fmt::Formatter<'_>) -> fmt::Result {
-        write!(f, "{}", self.0.escape_ascii())
     }
 }

@@ -2,7 +2,12 @@
 
 use std::{error::Error, fmt};
 
-use crate::{limits::JOB_BYTES, refusal::Refused};
+use crate::{
+    font_fault::FontFault,
+    ids::FaceId,
+    limits::JOB_BYTES,
+    refusal::{Refusal, Refused},
+};
 
 /// What is wrong with a field.
 #[derive(Clone, Copy, Debug, PartialEq, Eq, Hash)]
@@ -19,14 +24,23 @@ pub enum Problem {
     NotARatio,
     /// The job has no face of this number yet.
     NoSuchFace {
-        /// The number given.
-        face: u16,
+        /// The face given.
+        face: FaceId,
         /// How many faces the job has.
         faces: usize,
     },
     /// With this entry the job would be over 16,777,216 bytes long.
     TooLong,
-    /// The check call refused the job. Only fonts lead to it: 21, 22 and 23.
+    /// The font file is over 4,294,967,295 bytes long: its offsets have 32 bits.
+    FontTooLong,
+    /// The picker refuses the font.
+    Font {
+        /// The refusal: 21, 22 or 23.
+        refusal: Refusal,
+        /// Why, as read from the file.
+        fault: FontFault,
+    },
+    /// The check call refused the job. Nothing that a builder takes leads to it.
     Refused(Refused),
 }
 
@@ -40,6 +54,10 @@ impl fmt::Display for Problem {
                 write!(f, "face {face} is not in the job, which has {faces}")
             }
             Self::TooLong => write!(f, "the job would be over {JOB_BYTES} bytes long"),
+            Self::FontTooLong => write!(f, "the font file is over {} bytes long", u32::MAX),
+            Self::Font { refusal, fault } => {
+                write!(f, "refused {}: {refusal}: {fault}", refusal.number())
+            }
             Self::Refused(refused) => refused.fmt(f),
         }
     }
@@ -47,11 +65,12 @@ impl fmt::Display for Problem {
 
 /// The error of a [`JobBuilder`](crate::JobBuilder): a field, and what is
 /// wrong with it. The field is named by its entry's number:
-/// `overrides[3].pairs[1].value: not a finite number`.
+/// `overrides[3].pairs[1].value: not a finite number`. Where the picker refuses,
+/// the refusal is its source, and its words stand in the text too.
 #[derive(Clone, Debug, PartialEq, Eq)]
 pub struct BuildError {
     field: String,
-    face: Option<u16>,
+    face: Option<FaceId>,
     problem: Problem,
 }
 
@@ -65,7 +84,7 @@ impl BuildError {
     }
 
     /// Of the font of a face.
-    pub(crate) fn of_font(face: u16, problem: Problem) -> Self {
+    pub(crate) fn of_font(face: FaceId, problem: Problem) -> Self {
         Self {
             field: format!("faces[{face}].font"),
             face: Some(face),
@@ -78,8 +97,9 @@ impl BuildError {
         &self.field
     }
 
-    /// The number of the face whose font is at fault, if it is a font.
-    pub fn face(&self) -> Option<u16> {
+    /// The face whose font is at fault, if it is a font. The job does not have
+    /// it; the next face that is taken gets its number.
+    pub fn face(&self) -> Option<FaceId> {
         self.face
     }
 
@@ -95,4 +115,13 @@ impl fmt::Display for BuildError {
     }
 }
 
-impl Error for BuildError {}
+impl Error for BuildError {
+    /// The picker's refusal, where it is one.
+    fn source(&self) -> Option<&(dyn Error + 'static)> {
+        match &self.problem {
+            Problem::Font { refusal, .. } => Some(refusal),
+            Problem::Refused(refused) => Some(refused),
+            _ => None,
+        }
+    }
+}

@@ -1,10 +1,19 @@
 //! A builder of jobs: it writes the layout, and nothing outside it.
 
+use std::fmt;
+
 use crate::{
-    attributes::{Angle, Attributes, Style, Tag},
+    attributes::{Attributes, Style},
     build_error::{BuildError, Problem},
-    job::Job,
+    calls::check,
+    entry::{Entry, within},
+    font_fault::FontFault,
+    font_file::FontFile,
+    ids::{FaceId, FamilyId, RequestId},
+    job::{FaceNote, Job},
     limits,
+    looked_at::looked_at,
+    tag::Tag,
 };
 
 /// What is given in place of a face's own attributes and axis defaults.
@@ -28,11 +37,32 @@ pub struct Request {
     pub most: u16,
     /// The attributes asked for.
     pub attributes: Attributes,
-    /// Numbers of families, in turn; at most 255. A number that the job does
-    /// not have is passed over, a family listed twice offers twice.
-    pub families: Vec<u16>,
-    /// Numbers of the families that come last; at most 255.
-    pub fallbacks: Vec<u16>,
+    /// Families, in turn; at most 255. One that the job does not have is passed
+    /// over, one that is listed twice offers twice.
+    pub families: Vec<FamilyId>,
+    /// The families that come last; at most 255.
+    pub fallbacks: Vec<FamilyId>,
+}
+
+impl Default for Request {
+    /// Every offer for the default attributes, of no family.
+    ///
+    /// ```
+    /// use stemhook::Request;
+    ///
+    /// let request = Request::default();
+    /// assert_eq!(request.most, u16::MAX);
+    /// assert_eq!(request.attributes.weight, 400.0);
+    /// assert!(request.families.is_empty() && request.fallbacks.is_empty());
+    /// ```
+    fn default() -> Self {
+        Self {
+            most: u16::MAX,
+            attributes: Attributes::default(),
+            families: Vec::new(),
+            fallbacks: Vec::new(),
+        }
+    }
 }
 
 /// Builds a job entry by entry.
@@ -47,18 +77,17 @@ pub struct Request {
 /// use stemhook::{Attributes, JobBuilder, Request};
 ///
 /// let mut builder = JobBuilder::new();
-/// let regular = builder.face(&regular, true)?; // the bytes of a font file
-/// let bold = builder.face(&bold, true)?;
+/// let regular = builder.face(&regular)?; // the bytes of a font file
+/// let bold = builder.face(&bold)?;
 /// let family = builder.family(&[regular, bold])?;
 /// let request = builder.request(&Request {
-///     most: 8,
 ///     attributes: Attributes { weight: 700.0, ..Attributes::default() },
 ///     families: vec![family],
-///     fallbacks: vec![],
+///     ..Request::default()
 /// })?;
 /// let job = builder.build()?;
 ///
-/// let offers: Vec<_> = job.offers(request)?.collect();
+/// let offers: Vec<_> = job.offers(request)?.collect::<Result<_, _>>()?;
 /// assert_eq!(offers.len(), 2);
 /// assert_eq!((offers[0].place, offers[0].embolden), (1, false));
 /// assert_eq!((offers[1].place, offers[1].embolden), (0, true));
@@ -68,29 +97,30 @@ pub struct Request {
 /// What cannot stand in a job is refused by name:
 ///
 /// ```
-/// use stemhook::{JobBuilder, Problem};
+/// use stemhook::{FaceId, JobBuilder, Problem};
 ///
 /// let mut builder = JobBuilder::new();
-/// let error = builder.family(&[3]).unwrap_err();
+/// let face = FaceId::new(3);
+/// let error = builder.family(&[face]).unwrap_err();
 /// assert_eq!(error.field(), "families[0].faces[0]");
-/// assert_eq!(error.problem(), Problem::NoSuchFace { face: 3, faces: 0 });
+/// assert_eq!(error.problem(), Problem::NoSuchFace { face, faces: 0 });
 /// assert_eq!(
 ///     error.to_string(),
 ///     "families[0].faces[0]: face 3 is not in the job, which has 0"
 /// );
 /// ```
-#[derive(Clone, Debug, Default)]
+#[derive(Clone, Default)]
 pub struct JobBuilder {
     faces: Section,
     overrides: Section,
     families: Section,
     requests: Section,
-    /// The position of each font's length field in the job.
-    fonts: Vec<u32>,
+    /// What the job's bytes do not say of each face.
+    notes: Vec<FaceNote>,
 }
 
 /// The entries of a section as they stand in the job, without their count.
-#[derive(Clone, Debug, Default)]
+#[derive(Clone, Default)]
 struct Section {
     count: u16,
     bytes: Vec<u8>,
@@ -115,25 +145,45 @@ impl JobBuilder {
         Self::default()
     }
 
-    /// Adds a face from the bytes of a font file, and gives its number. A face
-    /// that is not held takes part in the choice but is not offered.
+    /// Adds a face: the bytes of a font file, or a [`FontFile`].
     ///
-    /// The font itself is read by [`build`](Self::build).
-    pub fn face(&mut self, font: &[u8], held: bool) -> Result<u16, BuildError> {
-        let number = self.faces.next("faces", limits::FACES)?;
-        let too_long = || BuildError::of_font(number, Problem::TooLong);
-        let length = u32::try_from(font.len()).map_err(|_| too_long())?;
-        if !self.has_room(5 + font.len()) {
-            return Err(too_long());
+    /// The job gets a small font file with just what the picker looks at, unless
+    /// the [whole file](FontFile::whole) is asked for. The offers are the same,
+    /// and their charmap offsets are those of the file that is given here.
+    ///
+    /// A font that the picker refuses is refused at once:
+    ///
+    /// ```
+    /// use stemhook::JobBuilder;
+    ///
+    /// let mut builder = JobBuilder::new();
+    /// let error = builder.face(b"wOFF and the rest of the file").unwrap_err();
+    /// assert_eq!(
+    ///     error.to_string(),
+    ///     "faces[0].font: refused 21: the font has a bad start, or its directory runs past \
+    ///      the file: a WOFF file: unpack it to TrueType or OpenType"
+    /// );
+    /// ```
+    pub fn face<'a>(&mut self, font: impl Into<FontFile<'a>>) -> Result<FaceId, BuildError> {
+        let font = font.into();
+        let face = FaceId::new(self.faces.next("faces", limits::FACES)?);
+        let error = |problem| BuildError::of_font(face, problem);
+        let small = looked_at(font.bytes).ok_or_else(|| error(Problem::FontTooLong))?;
+        if let Err(refused) = check(&job_of_face(&small.bytes)) {
+            let refusal = refused.refusal();
+            let fault = FontFault::of(font.bytes, refusal);
+            return Err(error(Problem::Font { refusal, fault }));
         }
-        // After the section's count and this face's held byte.
-        let position = u32::try_from(2 + self.faces.bytes.len() + 1).map_err(|_| too_long())?;
-        self.fonts.push(position);
-        let mut head = vec![u8::from(held)];
-        head.extend(length.to_be_bytes());
-        self.faces.push(&head);
-        self.faces.bytes.extend_from_slice(font);
-        Ok(number)
+        let bytes = if font.whole { font.bytes } else { &small.bytes };
+        if !self.has_room(5 + bytes.len()) {
+            return Err(error(Problem::TooLong));
+        }
+        self.faces.push(&face_entry(bytes, font.held));
+        self.notes.push(FaceNote {
+            name: font.name.to_owned(),
+            subtables: (!font.whole).then_some(small.subtables),
+        });
+        Ok(face)
     }
 
     /// Adds an override of a face. Overrides apply in the order in which they
@@ -145,7 +195,7 @@ impl JobBuilder {
     /// use stemhook::{JobBuilder, Override, Tag};
     ///
     /// let mut builder = JobBuilder::new();
-    /// let face = builder.face(&font, true)?;
+    /// let face = builder.face(&font)?;
     /// builder.override_face(face, &Override {
     ///     weight: Some(350.0),
     ///     pairs: vec![(Tag::WGHT, 350.0)],
@@ -157,12 +207,12 @@ impl JobBuilder {
     /// assert_eq!(error.to_string(), "overrides[1].width: not a width ratio from 0 to 16");
     /// # Ok::<(), stemhook::BuildError>(())
     /// ```
-    pub fn override_face(&mut self, face: u16, given: &Override) -> Result<(), BuildError> {
+    pub fn override_face(&mut self, face: FaceId, given: &Override) -> Result<(), BuildError> {
         let number = self.overrides.next("overrides", limits::OVERRIDES)?;
         let name = format!("overrides[{number}]");
         self.known_face(face, || format!("{name}.face"))?;
         let mut entry = Entry::new(&name);
-        entry.half(face);
+        entry.half(face.number());
         let mask = u8::from(given.width.is_some())
             | u8::from(given.style.is_some()) << 1
             | u8::from(given.weight.is_some()) << 2;
@@ -189,9 +239,9 @@ impl JobBuilder {
         Ok(())
     }
 
-    /// Adds a family of faces, by their numbers, and gives its number. A face's
-    /// place is where it stands here. There may be none.
-    pub fn family(&mut self, faces: &[u16]) -> Result<u16, BuildError> {
+    /// Adds a family of faces. A face's place is where it stands here. There may
+    /// be none.
+    pub fn family(&mut self, faces: &[FaceId]) -> Result<FamilyId, BuildError> {
         let number = self.families.next("families", limits::FAMILIES)?;
         let name = format!("families[{number}]");
         within(faces.len(), limits::FAMILY_FACES, &format!("{name}.faces"))?;
@@ -199,15 +249,15 @@ impl JobBuilder {
         entry.bytes.extend((faces.len() as u16).to_be_bytes());
         for (place, face) in faces.iter().enumerate() {
             self.known_face(*face, || format!("{name}.faces[{place}]"))?;
-            entry.half(*face);
+            entry.half(face.number());
         }
         self.fits(&entry)?;
         self.families.push(&entry.bytes);
-        Ok(number)
+        Ok(FamilyId::new(number))
     }
 
-    /// Adds a request, and gives its number.
-    pub fn request(&mut self, request: &Request) -> Result<u32, BuildError> {
+    /// Adds a request.
+    pub fn request(&mut self, request: &Request) -> Result<RequestId, BuildError> {
         let number = self.requests.next("requests", limits::REQUESTS)?;
         let name = format!("requests[{number}]");
         let mut entry = Entry::new(&name);
@@ -219,44 +269,19 @@ impl JobBuilder {
         entry.list(&request.fallbacks, "fallbacks")?;
         self.fits(&entry)?;
         self.requests.push(&entry.bytes);
-        Ok(u32::from(number))
+        Ok(RequestId::new(number.into()))
     }
 
-    /// The job, once the check call has accepted it. What can still be refused
-    /// is a font (21, 22 or 23); the error names its face.
-    ///
-    /// ```
-    /// use stemhook::{JobBuilder, Problem};
-    ///
-    /// let mut builder = JobBuilder::new();
-    /// builder.face(b"not a font", true)?;
-    /// let error = builder.build().unwrap_err();
-    /// assert_eq!(error.face(), Some(0));
-    /// assert_eq!(
-    ///     error.to_string(),
-    ///     "faces[0].font: refused 21 at byte 3: \
-    ///      the font has a bad start, or its directory runs past the file"
-    /// );
-    /// # Ok::<(), stemhook::BuildError>(())
-    /// ```
+    /// The job, once the check call has accepted it. Each entry was tested when
+    /// it was added: a refusal here would be a fault of this crate.
     pub fn build(&self) -> Result<Job<'static>, BuildError> {
         let mut bytes = Vec::with_capacity(self.length());
         for section in self.sections() {
             bytes.extend(section.count.to_be_bytes());
             bytes.extend_from_slice(&section.bytes);
         }
-        Job::new(bytes).map_err(|refused| {
-            let problem = Problem::Refused(refused);
-            let face = self
-                .fonts
-                .iter()
-                .position(|font| Some(*font) == refused.position())
-                .and_then(|face| u16::try_from(face).ok());
-            match face {
-                Some(face) => BuildError::of_font(face, problem),
-                None => BuildError::new("job", problem),
-            }
-        })
+        Job::with_notes(bytes, self.notes.clone())
+            .map_err(|refused| BuildError::new("job", Problem::Refused(refused)))
     }
 
     fn sections(&self) -> [&Section; 4] {
@@ -284,8 +309,8 @@ impl JobBuilder {
         }
     }
 
-    fn known_face(&self, face: u16, field: impl Fn() -> String) -> Result<(), BuildError> {
-        if face < self.faces.count {
+    fn known_face(&self, face: FaceId, field: impl Fn() -> String) -> Result<(), BuildError> {
+        if face.number() < self.faces.count {
             return Ok(());
         }
         let faces = usize::from(self.faces.count);
@@ -296,93 +321,31 @@ impl JobBuilder {
     }
 }
 
-/// Refuses a count that is over its limit.
-fn within(count: usize, limit: usize, field: &str) -> Result<(), BuildError> {
-    if count <= limit {
-        Ok(())
-    } else {
-        Err(BuildError::new(field, Problem::TooMany { limit }))
+impl fmt::Debug for JobBuilder {
+    fn fmt(&self, f: &mut fmt::Formatter<'_>) -> fmt::Result {
+        f.debug_struct("JobBuilder")
+            .field("faces", &self.faces.count)
+            .field("overrides", &self.overrides.count)
+            .field("families", &self.families.count)
+            .field("requests", &self.requests.count)
+            .field("length", &self.length())
+            .finish()
     }
 }
 
-/// The bytes of an entry that is being written, and its name for errors.
-struct Entry<'a> {
-    name: &'a str,
-    bytes: Vec<u8>,
+/// A face's entry: the held byte, the length, the font file.
+fn face_entry(font: &[u8], held: bool) -> Vec<u8> {
+    let mut entry = vec![u8::from(held)];
+    // At most the bytes of a job.
+    entry.extend((font.len() as u32).to_be_bytes());
+    entry.extend_from_slice(font);
+    entry
 }
 
-impl<'a> Entry<'a> {
-    fn new(name: &'a str) -> Self {
-        Self {
-            name,
-            bytes: Vec::new(),
-        }
-    }
-
-    fn error<T>(&self, field: &str, problem: Problem) -> Result<T, BuildError> {
-        Err(BuildError::new(format!("{}.{field}", self.name), problem))
-    }
-
-    fn zeros(&mut self, count: usize) {
-        self.bytes.resize(self.bytes.len() + count, 0);
-    }
-
-    fn byte(&mut self, byte: u8) {
-        self.bytes.push(byte);
-    }
-
-    fn half(&mut self, number: u16) {
-        self.bytes.extend(number.to_be_bytes());
-    }
-
-    fn finite(&mut self, number: f32, field: &str) -> Result<(), BuildError> {
-        if !number.is_finite() {
-            return self.error(field, Problem::NotFinite);
-        }
-        self.bytes.extend(number.to_be_bytes());
-        Ok(())
-    }
-
-    fn ratio(&mut self, width: f32) -> Result<(), BuildError> {
-        if !(0.0..=limits::WIDTH).contains(&width) {
-            return self.error("width", Problem::NotARatio);
-        }
-        self.bytes.extend(width.to_be_bytes());
-        Ok(())
-    }
-
-    fn style(&mut self, style: Style) -> Result<(), BuildError> {
-        let (kind, angle) = match style {
-            Style::Normal => (0, 0.0),
-            Style::Italic => (1, 0.0),
-            Style::Oblique(Angle::Unstated) => (2, 0.0),
-            Style::Oblique(Angle::Degrees(angle)) => (3, angle),
-        };
-        self.byte(kind);
-        self.finite(angle, "style.angle")
-    }
-
-    /// A count in one byte.
-    fn count(&mut self, count: usize, field: &str) -> Result<(), BuildError> {
-        match u8::try_from(count) {
-            Ok(count) => {
-                self.byte(count);
-                Ok(())
-            }
-            Err(_) => self.error(
-                field,
-                Problem::TooMany {
-                    limit: limits::BYTE_COUNT,
-                },
-            ),
-        }
-    }
-
-    fn list(&mut self, numbers: &[u16], field: &str) -> Result<(), BuildError> {
-        self.count(numbers.len(), field)?;
-        for number in numbers {
-            self.half(*number);
-        }
-        Ok(())
-    }
+/// A job of one face and nothing else.
+fn job_of_face(font: &[u8]) -> Vec<u8> {
+    let mut job = vec![0, 1];
+    job.extend(face_entry(font, true));
+    job.extend([0; 6]);
+    job
 }

@@ -1,12 +1,16 @@
-//! A job that has been checked, and the offers of its requests.
+//! A job that has been checked.
 
-use std::{borrow::Cow, fmt, iter::FusedIterator};
+use std::{borrow::Cow, fmt};
 
 use crate::{
     calls::{check, offer},
-    layout,
+    font_file::Font,
+    ids::{FaceId, RequestId},
+    layout::Layout,
+    looked_at::Subtables,
     offer::Offer,
-    refusal::Refused,
+    offers::Offers,
+    refusal::{Refusal, Refused},
 };
 
 /// A job that the check call accepted. It owns its bytes or borrows them.
@@ -15,11 +19,12 @@ use crate::{
 /// that is stored.
 ///
 /// ```
-/// use stemhook::{Job, Refusal};
+/// use stemhook::{Job, Refusal, RequestId};
 ///
 /// let job = Job::new(&[0; 8])?;
-/// assert_eq!(job.requests(), 0);
-/// assert_eq!(job.offers(0).unwrap_err().refusal(), Refusal::NoSuchRequest);
+/// assert_eq!(job.requests().len(), 0);
+/// let refused = job.offers(RequestId::new(0)).unwrap_err();
+/// assert_eq!(refused.refusal(), Refusal::NoSuchRequest);
 ///
 /// assert_eq!(Job::new(vec![0; 9]).unwrap_err().refusal(), Refusal::BytesLeft);
 /// # Ok::<(), stemhook::Refused>(())
@@ -27,25 +32,49 @@ use crate::{
 #[derive(Clone, PartialEq, Eq)]
 pub struct Job<'a> {
     bytes: Cow<'a, [u8]>,
-    requests: u16,
+    layout: Layout,
+    /// What the bytes do not say of each face. None for a job that is stored.
+    notes: Vec<FaceNote>,
+}
+
+/// What a job's bytes do not say of a face.
+#[derive(Clone, Debug, Default, PartialEq, Eq)]
+pub(crate) struct FaceNote {
+    /// The caller's name for the file.
+    pub name: String,
+    /// The way back to the caller's file, where the job has a small one.
+    pub subtables: Option<Subtables>,
 }
 
 impl<'a> Job<'a> {
     /// Checks a job.
     pub fn new(bytes: impl Into<Cow<'a, [u8]>>) -> Result<Self, Refused> {
+        Self::with_notes(bytes.into(), Vec::new())
+    }
+
+    pub(crate) fn with_notes(
+        bytes: impl Into<Cow<'a, [u8]>>,
+        notes: Vec<FaceNote>,
+    ) -> Result<Self, Refused> {
         let bytes = bytes.into();
         check(&bytes)?;
-        // An accepted job has the count.
-        let requests = layout::request_count(&bytes).unwrap_or(0);
-        Ok(Self { bytes, requests })
+        // An accepted job has its layout: no field runs past its end.
+        let past_end = || Refused::without_position(Refusal::PastEnd);
+        let layout = Layout::of(&bytes).ok_or_else(past_end)?;
+        Ok(Self {
+            bytes,
+            layout,
+            notes,
+        })
     }
 
-    /// How many requests the job has.
-    pub fn requests(&self) -> u32 {
-        u32::from(self.requests)
+    /// The job's requests.
+    pub fn requests(&self) -> impl ExactSizeIterator<Item = RequestId> + use<> {
+        (0..self.layout.requests).map(|number| RequestId::new(number.into()))
     }
 
-    /// The job's bytes.
+    /// The job's bytes. Where they hold small font files, charmap offsets that
+    /// are read by [`offer`](crate::offer()) from them count in those.
     pub fn as_bytes(&self) -> &[u8] {
         &self.bytes
     }
@@ -57,21 +86,67 @@ impl<'a> Job<'a> {
 
     /// The offer of a number for a request, or none where it lies past the
     /// list. The one refusal is [`NoSuchRequest`](crate::Refusal::NoSuchRequest).
-    pub fn offer(&self, request: u32, number: u32) -> Result<Option<Offer>, Refused> {
-        offer(&self.bytes, request, number)
+    pub fn offer(&self, request: RequestId, number: u32) -> Result<Option<Offer>, Refused> {
+        let offer = offer(&self.bytes, request.number(), number)?;
+        Ok(offer.map(|offer| self.in_whole(offer)))
     }
 
     /// The offers for a request, in order. The one refusal is
     /// [`NoSuchRequest`](crate::Refusal::NoSuchRequest).
-    pub fn offers(&self, request: u32) -> Result<Offers<'_>, Refused> {
-        let first = self.offer(request, 0)?;
-        Ok(Offers {
-            job: &self.bytes,
-            request,
-            ended: first.is_none(),
-            first,
-            number: 1,
+    pub fn offers(&self, request: RequestId) -> Result<Offers<'_>, Refused> {
+        Offers::new(self, request)
+    }
+
+    /// The font of an offer of this job: which file it is, what the caller
+    /// called it, and what to set its axes to. None for an offer whose family or
+    /// place the job does not have.
+    ///
+    /// ```
+    /// # mod fonts { include!(concat!(env!("CARGO_MANIFEST_DIR"), "/tests/common/fonts.rs")); }
+    /// # let bytes = fonts::variable(&[(*b"wght", 100, 400, 900)]);
+    /// use stemhook::{Attributes, FontFile, JobBuilder, Request};
+    ///
+    /// let mut builder = JobBuilder::new();
+    /// let face = builder.face(FontFile::new(&bytes).named("Inter.ttf"))?;
+    /// let family = builder.family(&[face])?;
+    /// let request = builder.request(&Request {
+    ///     attributes: Attributes { weight: 650.0, ..Attributes::default() },
+    ///     families: vec![family],
+    ///     ..Request::default()
+    /// })?;
+    /// let job = builder.build()?;
+    ///
+    /// let offer = job.offer(request, 0)?.expect("there is one");
+    /// let font = job.font(&offer).expect("it is of this job");
+    /// assert_eq!((font.face, font.name), (face, "Inter.ttf"));
+    /// assert_eq!(format!("{:?}", font.settings), "[wght=650]");
+    /// # Ok::<(), Box<dyn std::error::Error>>(())
+    /// ```
+    pub fn font(&self, offer: &Offer) -> Option<Font<'_>> {
+        let face = self.face(offer)?;
+        let note = self.notes.get(face.index());
+        Some(Font {
+            face,
+            file: self.layout.font(&self.bytes, face)?,
+            name: note.map_or("", |note| &note.name),
+            settings: offer.settings,
         })
+    }
+
+    fn face(&self, offer: &Offer) -> Option<FaceId> {
+        self.layout.face(&self.bytes, offer.family, offer.place)
+    }
+
+    /// The offer with the charmap's offset in the caller's file.
+    fn in_whole(&self, mut offer: Offer) -> Offer {
+        let note = self
+            .face(&offer)
+            .and_then(|face| self.notes.get(face.index()));
+        let subtables = note.and_then(|note| note.subtables.as_ref());
+        if let Some(offset) = subtables.and_then(|found| found.in_whole(offer.charmap.offset)) {
+            offer.charmap.offset = offset;
+        }
+        offer
     }
 }
 
@@ -85,66 +160,7 @@ impl fmt::Debug for Job<'_> {
     fn fmt(&self, f: &mut fmt::Formatter<'_>) -> fmt::Result {
         f.debug_struct("Job")
             .field("length", &self.bytes.len())
-            .field("requests", &self.requests)
-            .finish()
-    }
-}
-
-/// The offers for a request, in order: what [`Job::offers`] gives.
-///
-/// Each step is one offer call, which reads the whole job; `nth` is one too.
-#[derive(Clone)]
-pub struct Offers<'a> {
-    /// An accepted job that has the request.
-    job: &'a [u8],
-    request: u32,
-    /// Offer 0, until it is handed out.
-    first: Option<Offer>,
-    /// The next offer after that.
-    number: u32,
-    /// Whether the list's end was met.
-    ended: bool,
-}
-
-impl Iterator for Offers<'_> {
-    type Item = Offer;
-
-    fn next(&mut self) -> Option<Offer> {
-        if let Some(first) = self.first.take() {
-            return Some(first);
-        }
-        if self.ended {
-            return None;
-        }
-        // No refusal is left: the job was accepted, it has the request, and 29
-        // is proved not to arise.
-        let offer = offer(self.job, self.request, self.number).ok().flatten();
-        self.ended = offer.is_none();
-        self.number = self.number.saturating_add(1);
-        offer
-    }
-
-    fn nth(&mut self, n: usize) -> Option<Offer> {
-        let mut skipped = n;
-        if skipped > 0 && self.first.take().is_some() {
-            skipped -= 1;
-        }
-        // A list has at most 65,535 offers: a number held to 32 bits is past it.
-        let skipped = u32::try_from(skipped).unwrap_or(u32::MAX);
-        self.number = self.number.saturating_add(skipped);
-        self.next()
-    }
-}
-
-impl FusedIterator for Offers<'_> {}
-
-impl fmt::Debug for Offers<'_> {
-    fn fmt(&self, f: &mut fmt::Formatter<'_>) -> fmt::Result {
-        let next = self.number.saturating_sub(u32::from(self.first.is_some()));
-        f.debug_struct("Offers")
-            .field("request", &self.request)
-            .field("next", &next)
-            .field("ended", &self.ended)
+            .field("requests", &self.layout.requests)
             .finish()
     }
 }

@@ -1,24 +1,63 @@
-//! The places of a job's sections.
+//! The places of a job's entries.
 
-/// The number of requests of a job that keeps the layout.
-pub fn request_count(job: &[u8]) -> Option<u16> {
-    let mut reader = Reader { job, at: 0 };
-    for _ in 0..reader.half()? {
-        reader.skip(1)?;
-        let length = reader.word()?;
-        reader.skip(usize::try_from(length).ok()?)?;
+use std::ops::Range;
+
+use crate::ids::{FaceId, FamilyId};
+
+/// Where the fonts and families of a job stand, and how many requests it has.
+#[derive(Clone, Debug, Default, PartialEq, Eq)]
+pub struct Layout {
+    /// Where each face's font file lies.
+    fonts: Vec<Range<usize>>,
+    /// The position of each family's face numbers, and how many there are.
+    families: Vec<(usize, u16)>,
+    pub requests: u16,
+}
+
+impl Layout {
+    /// The layout of a job that keeps it.
+    pub fn of(job: &[u8]) -> Option<Self> {
+        let mut reader = Reader { job, at: 0 };
+        let mut fonts = Vec::new();
+        for _ in 0..reader.half()? {
+            reader.skip(1)?;
+            let length = reader.word()?;
+            let start = reader.at;
+            reader.skip(usize::try_from(length).ok()?)?;
+            fonts.push(start..reader.at);
+        }
+        for _ in 0..reader.half()? {
+            // Face, mask, ratio, style, weight.
+            reader.skip(2 + 1 + 4 + 5 + 4)?;
+            let pairs = reader.byte()?;
+            reader.skip(8 * usize::from(pairs))?;
+        }
+        let mut families = Vec::new();
+        for _ in 0..reader.half()? {
+            let faces = reader.half()?;
+            families.push((reader.at, faces));
+            reader.skip(2 * usize::from(faces))?;
+        }
+        let requests = reader.half()?;
+        Some(Self {
+            fonts,
+            families,
+            requests,
+        })
     }
-    for _ in 0..reader.half()? {
-        // Face, mask, ratio, style, weight.
-        reader.skip(2 + 1 + 4 + 5 + 4)?;
-        let pairs = reader.byte()?;
-        reader.skip(8 * usize::from(pairs))?;
+
+    /// The font file of a face.
+    pub fn font<'a>(&self, job: &'a [u8], face: FaceId) -> Option<&'a [u8]> {
+        job.get(self.fonts.get(face.index())?.clone())
     }
-    for _ in 0..reader.half()? {
-        let faces = reader.half()?;
-        reader.skip(2 * usize::from(faces))?;
+
+    /// The face at a place of a family.
+    pub fn face(&self, job: &[u8], family: FamilyId, place: u16) -> Option<FaceId> {
+        let (at, faces) = *self.families.get(family.index())?;
+        let at = at + 2 * usize::from(place);
+        let face = Reader { job, at }.half()?;
+        (place < faces).then_some(FaceId::new(face))
     }
-    reader.half()
 }
 
 struct Reader<'a> {
@@ -51,15 +90,39 @@ impl<'a> Reader<'a> {
 
 #[cfg(test)]
 mod tests {
-    use super::request_count;
+    use super::*;
 
     #[test]
-    fn cut_jobs_have_no_count() {
+    fn cut_jobs_have_no_layout() {
         let job = [0; 8];
         for length in 0..8 {
-            assert_eq!(request_count(&job[..length]), None);
+            assert_eq!(Layout::of(&job[..length]), None);
         }
-        assert_eq!(request_count(&job), Some(0));
-        assert_eq!(request_count(&[0xff; 64]), None);
+        assert_eq!(Layout::of(&job), Some(Layout::default()));
+        assert_eq!(Layout::of(&[0xff; 64]), None);
+    }
+
+    #[test]
+    fn faces_of_families() {
+        // No face, no override; families of none and of the faces 7 and 3; a request.
+        let job = [0, 0, 0, 0, 0, 2, 0, 0, 0, 2, 0, 7, 0, 3, 0, 1];
+        let layout = Layout::of(&job).expect("it is whole");
+        let face = |family, place| layout.face(&job, FamilyId::new(family), place);
+        assert_eq!(layout.requests, 1);
+        assert_eq!(face(1, 0), Some(FaceId::new(7)));
+        assert_eq!(face(1, 1), Some(FaceId::new(3)));
+        assert_eq!([face(1, 2), face(0, 0), face(2, 0)], [None; 3]);
+    }
+
+    #[test]
+    fn fonts_of_faces() {
+        // Faces with the files "ab" and "", and nothing else.
+        let job = *b"\0\x02\x01\0\0\0\x02ab\0\0\0\0\0\0\0\0\0\0\0";
+        let layout = Layout::of(&job).expect("it is whole");
+        let font = |face| layout.font(&job, FaceId::new(face));
+        assert_eq!(
+            [font(0), font(1), font(2)],
+            [Some(&b"ab"[..]), Some(b""), None]
+        );
     }
 }

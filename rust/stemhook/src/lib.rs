@@ -7,7 +7,8 @@
 //!
 //! - [`JobBuilder`] puts font files, overrides, families and requests into a
 //!   [`Job`], and refuses what would not keep the layout, naming the field.
-//! - [`Job::offers`] goes over the [`Offer`]s for a request.
+//! - [`Job::offers`] goes over the [`Offer`]s for a request, and [`Job::font`]
+//!   gives the way back from an offer to its font.
 //! - [`check`], [`offer`] and [`offer_bytes`] are the picker's calls themselves.
 //!   They take any bytes and any numbers and answer a value or a [`Refused`].
 //!
@@ -19,19 +20,20 @@
 //! use stemhook::{Attributes, JobBuilder, Request, Tag};
 //!
 //! let mut builder = JobBuilder::new();
-//! let face = builder.face(&variable_font, true)?; // the bytes of a font file
+//! let face = builder.face(&variable_font)?; // the bytes of a font file
 //! let family = builder.family(&[face])?;
 //! let request = builder.request(&Request {
-//!     most: 8,
 //!     attributes: Attributes { weight: 650.0, ..Attributes::default() },
 //!     families: vec![family],
-//!     fallbacks: vec![],
+//!     ..Request::default()
 //! })?;
 //! let job = builder.build()?;
 //!
 //! for offer in job.offers(request)? {
-//!     assert_eq!((offer.family, offer.place), (0, 0));
+//!     let offer = offer?;
+//!     assert_eq!((offer.family, offer.place), (family, 0));
 //!     assert_eq!(offer.settings.value(Tag::WGHT), Some(650.0));
+//!     assert_eq!(job.font(&offer).map(|font| font.face), Some(face));
 //! }
 //! # assert_eq!(job.offers(request)?.count(), 1);
 //! # Ok::<(), Box<dyn std::error::Error>>(())
@@ -43,21 +45,34 @@ mod attributes;
 mod build_error;
 mod builder;
 mod calls;
+mod entry;
 #[allow(unsafe_code)]
 mod ffi;
+mod font_fault;
+mod font_file;
+mod ids;
 mod job;
 mod layout;
 pub mod limits;
+mod looked_at;
 mod offer;
+mod offers;
 mod refusal;
+mod tables;
+mod tag;
 
-pub use attributes::{Angle, Attributes, Style, Tag};
+pub use attributes::{Angle, Attributes, Style};
 pub use build_error::{BuildError, Problem};
 pub use builder::{JobBuilder, Override, Request};
 pub use calls::{check, offer, offer_bytes};
-pub use job::{Job, Offers};
+pub use font_fault::FontFault;
+pub use font_file::{Font, FontFile};
+pub use ids::{FaceId, FamilyId, RequestId};
+pub use job::Job;
 pub use offer::{CharmapIndex, Offer, Setting, Settings};
+pub use offers::Offers;
 pub use refusal::{Refusal, Refused};
+pub use tag::{ParseTagError, Tag};
 
 /// The examples of the README, run as tests.
 #[cfg(doctest)]

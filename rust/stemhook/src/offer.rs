@@ -2,14 +2,14 @@
 
 use std::{fmt, ops::Deref, slice};
 
-use crate::{attributes::Tag, limits::OFFER_BYTES};
+use crate::{ids::FamilyId, limits::OFFER_BYTES, tag::Tag};
 
 /// A face that is offered for a request.
 #[derive(Clone, Copy, Debug, PartialEq)]
 #[non_exhaustive]
 pub struct Offer {
-    /// The family's number in the job.
-    pub family: u16,
+    /// The family.
+    pub family: FamilyId,
     /// The face's place in that family.
     pub place: u16,
     /// Whether the face is to be emboldened.
@@ -36,7 +36,7 @@ impl Offer {
     /// bytes[8..12].copy_from_slice(b"wght");
     /// bytes[12..16].copy_from_slice(&650.0_f32.to_be_bytes());
     /// let offer = Offer::from_bytes(&bytes);
-    /// assert_eq!((offer.family, offer.place, offer.skew), (0, 2, -14));
+    /// assert_eq!((offer.family.number(), offer.place, offer.skew), (0, 2, -14));
     /// assert_eq!(offer.settings.len(), 1);
     /// assert_eq!(offer.settings.value(Tag::WGHT), Some(650.0));
     /// ```
@@ -48,7 +48,7 @@ impl Offer {
             value: f32::from_be_bytes(word(at + 4)),
         };
         Self {
-            family: half(0),
+            family: FamilyId::new(half(0)),
             place: half(2),
             embolden: bytes[4] != 0,
             skew: i8::from_be_bytes([bytes[5]]),
@@ -66,12 +66,25 @@ impl Offer {
 }
 
 /// The value that an axis is to be set to.
-#[derive(Clone, Copy, Debug, Default, PartialEq)]
+#[derive(Clone, Copy, Default, PartialEq)]
 pub struct Setting {
     /// The axis.
     pub tag: Tag,
     /// Its value.
     pub value: f32,
+}
+
+/// As `wght=650`.
+impl fmt::Display for Setting {
+    fn fmt(&self, f: &mut fmt::Formatter<'_>) -> fmt::Result {
+        write!(f, "{}={}", self.tag, self.value)
+    }
+}
+
+impl fmt::Debug for Setting {
+    fn fmt(&self, f: &mut fmt::Formatter<'_>) -> fmt::Result {
+        fmt::Display::fmt(self, f)
+    }
 }
 
 /// The settings of an offer: a slice of at most three.
@@ -129,7 +142,9 @@ impl fmt::Debug for Settings {
 /// Where a font's characters are mapped: the `cmap` subtable to use.
 #[derive(Clone, Copy, Debug, Default, PartialEq, Eq, Hash)]
 pub struct CharmapIndex {
-    /// The subtable's offset in bytes, from the start of the font file.
+    /// The subtable's offset in bytes, from the start of the font file. In an
+    /// offer of a [`Job`](crate::Job) that a builder made, of the file that was
+    /// given to it.
     pub offset: u32,
     /// Whether it is a symbol subtable.
     pub symbol: bool,

@@ -32,8 +32,12 @@ fn try_all(job: &[u8], random: &mut Random) -> bool {
         Err(refused) => assert_eq!(checked, Err(refused)),
         Ok(job) => {
             assert_eq!(checked, Ok(()));
-            for request in 0..job.requests().min(3) {
-                job.offers(request).expect("it is in the job").count();
+            for request in job.requests().take(3) {
+                let offers = job.offers(request).expect("it is in the job");
+                for offer in offers {
+                    let offer = offer.expect("the job is accepted");
+                    assert!(job.font(&offer).is_some());
+                }
             }
         }
     }
@@ -94,7 +98,10 @@ fn any_40_bytes_are_read() {
     for _ in 0..10_000 {
         let bytes = std::array::from_fn(|_| random.next() as u8);
         let offer = Offer::from_bytes(&bytes);
-        assert_eq!(offer.family, u16::from_be_bytes([bytes[0], bytes[1]]));
+        assert_eq!(
+            offer.family.number(),
+            u16::from_be_bytes([bytes[0], bytes[1]])
+        );
         assert_eq!(offer.place, u16::from_be_bytes([bytes[2], bytes[3]]));
         assert_eq!(offer.settings.len(), usize::from(bytes[6].min(3)));
         for (at, setting) in offer.settings.iter().enumerate() {

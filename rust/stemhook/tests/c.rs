@@ -1,35 +1,45 @@
-//! The C header: that it says what this crate says, and that a C program
-//! built with it answers as the program `offers` does.
+//! The C header: that it says what this crate says. That C programs built with
+//! it answer as they should is for the repository's script `tools/test-c`.
 
-mod common;
-
-use std::{
-    env, fs,
-    io::Write as _,
-    path::{Path, PathBuf},
-    process::{Command, Stdio},
-};
-
-use stemhook::{Refusal, limits};
+use stemhook::{Offer, Refusal, Tag, limits};
 
 const HEADER: &str = include_str!("../include/stemhook.h");
 
-/// The names that the header defines with a number, and the comments beside.
-fn defined() -> Vec<(&'static str, u32, &'static str)> {
+/// The names that the header defines with a number.
+fn defined() -> Vec<(&'static str, u32)> {
     let mut defined = Vec::new();
     for line in HEADER.lines() {
         let Some(rest) = line.strip_prefix("#define STEMHOOK_") else {
             continue;
         };
-        let (rest, comment) = rest.split_once("/*").unwrap_or((rest, ""));
+        let (rest, _) = rest.split_once("/*").unwrap_or((rest, ""));
         let Some((name, number)) = rest.split_once(' ') else {
             continue;
         };
         if let Ok(number) = number.trim().parse() {
-            defined.push((name, number, comment.trim_end_matches("*/").trim()));
+            defined.push((name, number));
         }
     }
     defined
+}
+
+/// The refusals that the header's `stemhook_meaning` tells apart, with what it
+/// returns; the name of the last is empty.
+fn meanings() -> Vec<(&'static str, &'static str)> {
+    let (_, body) = HEADER.split_once("*stemhook_meaning(").unwrap();
+    let (body, _) = body.split_once("\n}\n").unwrap();
+    let mut name = "";
+    let mut meanings = Vec::new();
+    for line in body.lines().map(str::trim) {
+        if let Some(case) = line.strip_prefix("case STEMHOOK_REFUSED_") {
+            name = case.trim_end_matches(':');
+        } else if line == "default:" {
+            name = "";
+        } else if let Some(text) = line.strip_prefix("return \"") {
+            meanings.push((name, text.trim_end_matches("\";")));
+        }
+    }
+    meanings
 }
 
 /// `NoSuchFace` as `NO_SUCH_FACE`.
@@ -46,19 +56,27 @@ fn upper(name: &str) -> String {
 
 #[test]
 fn the_header_has_the_refusals_of_this_crate() {
-    let listed: Vec<(String, u32, &str)> = defined()
+    let listed: Vec<(String, u32)> = defined()
         .into_iter()
-        .filter_map(|(name, number, meaning)| {
-            let name = name.strip_prefix("REFUSED_")?;
-            Some((name.to_owned(), number, meaning))
-        })
+        .filter_map(|(name, number)| Some((name.strip_prefix("REFUSED_")?.to_owned(), number)))
         .collect();
-    let expected: Vec<(String, u32, &str)> = Refusal::TABLE
+    let expected: Vec<(String, u32)> = Refusal::TABLE
         .into_iter()
-        .map(|refusal| {
-            let name = upper(&format!("{refusal:?}"));
-            (name, refusal.number(), refusal.meaning())
-        })
+        .map(|refusal| (upper(&format!("{refusal:?}")), refusal.number()))
+        .collect();
+    assert_eq!(listed, expected);
+}
+
+#[test]
+fn the_header_has_the_meanings_of_this_crate() {
+    let mut expected: Vec<(String, &str)> = Refusal::TABLE
+        .into_iter()
+        .map(|refusal| (upper(&format!("{refusal:?}")), refusal.meaning()))
+        .collect();
+    expected.push((String::new(), Refusal::from_number(30).meaning()));
+    let listed: Vec<(String, &str)> = meanings()
+        .into_iter()
+        .map(|(name, meaning)| (name.to_owned(), meaning))
         .collect();
     assert_eq!(listed, expected);
 }
@@ -75,74 +93,39 @@ fn the_header_has_the_limits_of_this_crate() {
         ("REQUESTS", limits::REQUESTS),
         ("OFFER_BYTES", limits::OFFER_BYTES),
     ] {
-        let found = defined.iter().find(|(defined, ..)| *defined == name);
+        let found = defined.iter().find(|(defined, _)| *defined == name);
         assert_eq!(
-            found.map(|(_, number, _)| *number as usize),
+            found.map(|(_, number)| *number as usize),
             Some(limit),
             "{name}"
         );
     }
 }
 
-/// Compiles the C example; none where there is no compiler.
-fn compiled(test: &str) -> Option<PathBuf> {
-    let compiler = env::var_os("CC").unwrap_or_else(|| "cc".into());
-    if Command::new(&compiler).arg("--version").output().is_err() {
-        let lack = format!("there is no C compiler {compiler:?}");
-        common::skip(test, &lack);
-        return None;
-    }
-    let package = Path::new(env!("CARGO_MANIFEST_DIR"));
-    let name = format!("{}-{test}", std::process::id());
-    let program = Path::new(env!("CARGO_TARGET_TMPDIR")).join(name);
-    let output = Command::new(compiler)
-        .args([
-            "-std=c99",
-            "-pedantic",
-            "-Wall",
-            "-Wextra",
-            "-Werror",
-            "-O1",
-            "-I",
-        ])
-        .arg(package.join("include"))
-        .arg(package.join("examples/offers.c"))
-        .arg(env!("STEMHOOK_LIB_FILE"))
-        .arg("-o")
-        .arg(&program)
-        .output()
-        .unwrap();
-    let said = String::from_utf8_lossy(&output.stderr);
-    assert!(output.status.success(), "{said}");
-    Some(program)
-}
-
-/// What the C program prints for a job.
-fn printed(program: &Path, job: &[u8]) -> String {
-    let mut child = Command::new(program)
-        .stdin(Stdio::piped())
-        .stdout(Stdio::piped())
-        .spawn()
-        .unwrap();
-    child.stdin.take().unwrap().write_all(job).unwrap();
-    let output = child.wait_with_output().unwrap();
-    assert!(output.status.success());
-    String::from_utf8(output.stdout).unwrap()
-}
-
 #[test]
-fn the_c_example_prints_what_the_program_offers_prints() {
-    let Some(program) = compiled("c_example") else {
-        return;
+fn the_header_has_the_places_of_an_offers_fields() {
+    let defined = defined();
+    let at = |name: &str| {
+        let found = defined.iter().find(|(defined, _)| *defined == name);
+        found.map(|(_, number)| *number as usize).expect(name)
     };
-    let example = common::read("crates/offers/stdin");
-    let stored = String::from_utf8(common::read("crates/offers/stdout")).unwrap();
-    assert_eq!(printed(&program, &example), stored);
-    // Some jobs of the list, by what this crate answers for them.
-    let list = common::read("crates/offer_cases/stdin");
-    for job in common::jobs(&list).into_iter().step_by(29) {
-        assert_eq!(printed(&program, job), common::text(job));
-    }
-    assert_eq!(printed(&program, &vec![0; 16_777_217]), "refused 17 0\n");
-    fs::remove_file(program).unwrap();
+    let with = |name: &str, last: usize| {
+        let mut bytes = [0; limits::OFFER_BYTES];
+        bytes[at(name) + last] = 1;
+        Offer::from_bytes(&bytes)
+    };
+    let none = Offer::from_bytes(&[0; limits::OFFER_BYTES]);
+    assert_ne!(with("AT_FAMILY", 1).family, none.family);
+    assert_ne!(with("AT_PLACE", 1).place, none.place);
+    assert!(with("AT_EMBOLDEN", 0).embolden);
+    assert_eq!(with("AT_SKEW", 0).skew, 1);
+    assert_eq!(with("AT_SETTING_COUNT", 0).settings.len(), 1);
+    assert_eq!(with("AT_CHARMAP_OFFSET", 3).charmap.offset, 1);
+    assert!(with("AT_SYMBOL", 0).charmap.symbol);
+    assert!(with("AT_MAC_ROMAN", 0).charmap.mac_roman);
+    let mut bytes = [0; limits::OFFER_BYTES];
+    bytes[at("AT_SETTING_COUNT")] = 1;
+    bytes[at("AT_SETTINGS")..][..4].copy_from_slice(b"wght");
+    let settings = Offer::from_bytes(&bytes).settings;
+    assert_eq!(settings.value(Tag::WGHT), Some(0.0));
 }

@@ -2,7 +2,7 @@
 
 mod common;
 
-use stemhook::{Attributes, Job, JobBuilder, Request};
+use stemhook::{Attributes, FaceId, FontFile, Job, JobBuilder, Request, RequestId};
 
 /// The fonts of the example, as they stand in the job.
 fn fonts(job: &[u8]) -> Vec<&[u8]> {
@@ -22,25 +22,25 @@ fn the_builder_writes_the_example_byte_for_byte() {
     let stored = common::read("crates/offers/stdin");
     let fonts = fonts(&stored);
     let mut builder = JobBuilder::new();
-    let faces: Vec<u16> = fonts
+    let faces: Vec<FaceId> = fonts
         .iter()
-        .map(|font| builder.face(font, true).unwrap())
+        .map(|font| builder.face(FontFile::new(font).whole()).unwrap())
         .collect();
-    assert_eq!(faces, [0, 1]);
-    assert_eq!(builder.family(&faces), Ok(0));
+    assert_eq!(faces, [FaceId::new(0), FaceId::new(1)]);
+    let family = builder.family(&faces).unwrap();
     let request = Request {
         most: 8,
         attributes: Attributes {
             weight: 700.0,
             ..Attributes::default()
         },
-        families: vec![0],
+        families: vec![family],
         fallbacks: vec![],
     };
-    assert_eq!(builder.request(&request), Ok(0));
+    assert_eq!(builder.request(&request), Ok(RequestId::new(0)));
     let job = builder.build().unwrap();
     assert_eq!(job.as_bytes(), stored);
-    assert_eq!(job.requests(), 1);
+    assert_eq!(job.requests().len(), 1);
     assert_eq!(job.into_bytes(), stored);
 }
 
@@ -54,7 +54,8 @@ fn the_example_is_answered_as_the_program_prints_it() {
 fn the_charmap_index_points_into_the_font() {
     let stored = common::read("crates/offers/stdin");
     let job = Job::new(stored.as_slice()).unwrap();
-    for offer in job.offers(0).unwrap() {
+    for offer in job.offers(RequestId::new(0)).unwrap() {
+        let offer = offer.unwrap();
         let font = fonts(&stored)[usize::from(offer.place)];
         // The one cmap record names the subtable by its offset in the table,
         // and the table starts where the directory's second record says.

@@ -2,7 +2,7 @@
 
 mod common;
 
-use stemhook::{Job, Offer, Refusal, check, offer, offer_bytes};
+use stemhook::{Job, Refusal, RequestId, check, offer, offer_bytes};
 
 fn list() -> Vec<u8> {
     common::read("crates/offer_cases/stdin")
@@ -35,11 +35,11 @@ fn the_iterator_gives_the_offers_by_number() {
     let mut offered = 0;
     for bytes in common::jobs(&list) {
         let Ok(job) = Job::new(bytes) else { continue };
-        for request in 0..job.requests() {
+        for request in job.requests() {
             let mut offers = job.offers(request).unwrap();
             let mut number = 0;
-            while let Some(by_number) = offer(bytes, request, number).unwrap() {
-                assert_eq!(offers.next(), Some(by_number));
+            while let Some(by_number) = offer(bytes, request.number(), number).unwrap() {
+                assert_eq!(offers.next(), Some(Ok(by_number)));
                 number += 1;
             }
             // Past the list for good.
@@ -55,7 +55,7 @@ fn the_iterator_gives_the_offers_by_number() {
 }
 
 /// The plain steps of an iterator, without its own `nth`.
-fn stepped(offers: &mut impl Iterator<Item = Offer>, n: usize) -> Option<Offer> {
+fn stepped<I: Iterator>(offers: &mut I, n: usize) -> Option<I::Item> {
     for _ in 0..n {
         offers.next()?;
     }
@@ -68,7 +68,7 @@ fn nth_gives_what_steps_give() {
     let mut random = common::Random(7);
     for bytes in common::jobs(&list) {
         let Ok(job) = Job::new(bytes) else { continue };
-        for request in 0..job.requests().min(4) {
+        for request in job.requests().take(4) {
             let mut jumping = job.offers(request).unwrap();
             let mut stepping = jumping.clone();
             for _ in 0..4 {
@@ -87,11 +87,12 @@ fn the_request_count_is_the_library_s() {
     for bytes in common::jobs(&list) {
         let Ok(job) = Job::new(bytes) else { continue };
         let found = (0..).find(|request| offer(bytes, *request, u32::MAX).is_err());
-        assert_eq!(Some(job.requests()), found);
-        let refused = job.offers(job.requests()).unwrap_err();
+        let count = job.requests().len() as u32;
+        assert_eq!(Some(count), found);
+        let refused = job.offers(RequestId::new(count)).unwrap_err();
         assert_eq!(refused.refusal(), Refusal::NoSuchRequest);
         assert_eq!(refused.position(), None);
-        assert_eq!(job.offers(u32::MAX).unwrap_err(), refused);
+        assert_eq!(job.offers(RequestId::new(u32::MAX)).unwrap_err(), refused);
     }
 }
 

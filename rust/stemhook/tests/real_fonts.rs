@@ -5,19 +5,13 @@
 //! STEMHOOK_FONTS names the folder of fonts, if it is not Debian's.
 
 mod common;
-// Its `main` is not called here.
-#[allow(dead_code)]
-#[path = "../examples/pick.rs"]
-mod pick;
 
 use std::{
-    env,
-    ffi::OsString,
-    fs,
+    env, fs,
     path::{Path, PathBuf},
 };
 
-use stemhook::{Angle, Attributes, Job, JobBuilder, Offer, Request, Style, Tag};
+use stemhook::{Angle, Attributes, FaceId, Job, JobBuilder, Offer, Request, RequestId, Style, Tag};
 
 const DEJAVU: &str = "truetype/dejavu";
 const CANTARELL: &str = "opentype/cantarell";
@@ -83,9 +77,9 @@ fn job(folder: &Path, families: &[&[&str]], attributes: Attributes) -> Job<'stat
     let mut builder = JobBuilder::new();
     let mut numbers = Vec::new();
     for files in families {
-        let faces: Vec<u16> = files
+        let faces: Vec<FaceId> = files
             .iter()
-            .map(|file| builder.face(&font(folder, file), true).unwrap())
+            .map(|file| builder.face(&font(folder, file)).unwrap())
             .collect();
         numbers.push(builder.family(&faces).unwrap());
     }
@@ -102,9 +96,10 @@ fn job(folder: &Path, families: &[&[&str]], attributes: Attributes) -> Job<'stat
 
 fn offers(folder: &Path, families: &[&[&str]], attributes: Attributes) -> Vec<Offer> {
     job(folder, families, attributes)
-        .offers(0)
+        .offers(RequestId::new(0))
         .unwrap()
-        .collect()
+        .collect::<Result<_, _>>()
+        .unwrap()
 }
 
 /// The first offer of a family, and its file.
@@ -256,7 +251,10 @@ fn fallbacks_come_last() {
     let asked = attributes(1.0, Style::Normal, 700.0);
     let families: [&[&str]; 3] = [&LIGHT_TO_BOLD, &SLANTING, &SANS];
     let offers = offers(&folder, &families, asked);
-    let places: Vec<(u16, u16)> = offers.iter().map(|o| (o.family, o.place)).collect();
+    let places: Vec<(u16, u16)> = offers
+        .iter()
+        .map(|o| (o.family.number(), o.place))
+        .collect();
     assert_eq!(places, [(0, 3), (0, 2), (1, 0), (2, 1), (2, 0)]);
 }
 
@@ -285,29 +283,4 @@ fn every_file_of_the_packages_is_read_and_offered() {
         }
     }
     assert!(count >= 17, "only {count} files");
-}
-
-#[test]
-fn the_example_program_prints_the_files_that_are_offered() {
-    let Some(folder) = folder("the_example_program_prints_the_files_that_are_offered") else {
-        return;
-    };
-    let path = |file: &str| folder.join(file).display().to_string();
-    let mut arguments: Vec<String> = ["--weight", "650", "--style", "oblique:12"]
-        .map(String::from)
-        .to_vec();
-    arguments.push(path(SLANTING[0]));
-    arguments.push("--fallback".into());
-    arguments.extend([SANS[0], SANS[1]].map(path));
-    let mut out = Vec::new();
-    pick::run(arguments.into_iter().map(OsString::from), &mut out).unwrap();
-    let expected = format!(
-        "{}: family 0, place 0, wght=650, slnt=12\n\
-         {}: family 1, place 1, skew 12\n\
-         {}: family 1, place 0, embolden, skew 12\n",
-        path(SLANTING[0]),
-        path(SANS[1]),
-        path(SANS[0]),
-    );
-    assert_eq!(String::from_utf8(out).unwrap(), expected);
 }

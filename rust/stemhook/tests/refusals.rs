@@ -42,7 +42,7 @@ fn an_accepted_job() {
     let job = accepted();
     assert_eq!(check(&job), Ok(()));
     let first = offer(&job, 0, 0).unwrap().unwrap();
-    assert_eq!((first.family, first.place), (0, 0));
+    assert_eq!((first.family.number(), first.place), (0, 0));
     assert!(first.settings.is_empty() && !first.embolden && first.skew == 0);
     assert_eq!(offer(&job, 0, 1), Ok(None));
     assert_eq!(check(&[0; 8]), Ok(()));

@@ -58,9 +58,10 @@ fn lines(bytes: &[u8], indexed: bool) -> String {
         }
     };
     assert_eq!(check(bytes), Ok(()));
-    let mut text = format!("requests {}\n", job.requests());
-    for request in 0..job.requests() {
+    let mut text = format!("requests {}\n", job.requests().len());
+    for request in job.requests() {
         for offer in job.offers(request).expect("the request is in the job") {
+            let offer = offer.expect("the job is accepted");
             write!(text, "{request} ").expect("a string takes text");
             text += &line(&offer, indexed);
         }
@@ -86,16 +87,12 @@ fn line(offer: &Offer, indexed: bool) -> String {
     line + "\n"
 }
 
-/// Numbers from a seed: SplitMix64.
+/// Numbers from a seed, as `jobs` draws them.
 pub struct Random(pub u64);
 
 impl Random {
     pub fn next(&mut self) -> u64 {
-        self.0 = self.0.wrapping_add(0x9e37_79b9_7f4a_7c15);
-        let mut x = self.0;
-        x = (x ^ (x >> 30)).wrapping_mul(0xbf58_476d_1ce4_e5b9);
-        x = (x ^ (x >> 27)).wrapping_mul(0x94d0_49bb_1331_11eb);
-        x ^ (x >> 31)
+        jobs::random::draw(&mut self.0)
     }
 
     /// A number below a limit.

@@ -1,0 +1,124 @@
+//! A font that is refused is told at once, with the reason in words, and the
+//! builder stays as it was.
+
+mod common;
+
+use std::error::Error as _;
+
+use common::fonts;
+use stemhook::{FaceId, FontFault, FontFile, JobBuilder, Problem, Refusal};
+
+/// A font with tables of the tests' own, or without them.
+fn with(tables: &[([u8; 4], Vec<u8>)]) -> Vec<u8> {
+    fonts::file(*b"OTTO", tables)
+}
+
+/// A font whose one record, of `cmap`, has another length.
+fn with_cmap_length(length: u32) -> Vec<u8> {
+    let mut font = with(&[(*b"cmap", fonts::cmap(3, 1))]);
+    font[24..28].copy_from_slice(&length.to_be_bytes());
+    font
+}
+
+/// A font file, what is wrong with it, and some of the words.
+type Case = (Vec<u8>, FontFault, &'static str);
+
+/// Files that do not start as a font, or end too soon.
+fn starts() -> Vec<Case> {
+    let mut cut = b"OTTO\0\x03".to_vec();
+    cut.resize(20, 0);
+    let past = FontFault::DirectoryPastEnd {
+        needed: 12 + 16 * 3,
+        length: 20,
+    };
+    let mut packed = vec![b'.'; 40];
+    packed[34..36].copy_from_slice(b"LP");
+    let start = FontFault::Start(*b"<htm");
+    vec![
+        (vec![], FontFault::Empty, "is empty"),
+        (b"OTT".to_vec(), FontFault::Short, "fewer than four"),
+        (b"wOFF....".to_vec(), FontFault::Woff, "a WOFF file"),
+        (b"wOF2....".to_vec(), FontFault::Woff2, "a WOFF2 file"),
+        (b"ttcf....".to_vec(), FontFault::Collection, "ttcf"),
+        (b"%!PS-Adobe".to_vec(), FontFault::Type1, "Type 1"),
+        (b"\x80\x01..".to_vec(), FontFault::Type1, "Type 1"),
+        (b"typ1....".to_vec(), FontFault::WrappedType1, "Type 1"),
+        (packed, FontFault::EmbeddedOpenType, "Embedded OpenType"),
+        (b"<htm".to_vec(), start, "starts with \"<htm\""),
+        (cut, past, "ends at byte 60, the file at 20"),
+    ]
+}
+
+/// Fonts that lack a table or have a wrong one.
+fn tables() -> Vec<Case> {
+    let unmapped = with(&[(*b"OS/2", fonts::os2(400, 5, 0))]);
+    let past = with_cmap_length(1000);
+    let other = with(&[(*b"cmap", fonts::cmap(3, 2))]);
+    let records = FontFault::CmapRecords { records: 1 };
+    let axes = fonts::variable(&[(*b"wght", 1, 2, 3); 17]);
+    vec![
+        (unmapped, FontFault::NoCmap, "no cmap"),
+        (past, FontFault::CmapPastEnd, "past the end"),
+        (with_cmap_length(3), FontFault::CmapShort, "fewer than four"),
+        (other, records, "none of the 1 records"),
+        (axes, FontFault::Axes { axes: 17 }, "17 variation axes"),
+    ]
+}
+
+fn cases() -> Vec<Case> {
+    [starts(), tables()].concat()
+}
+
+#[test]
+fn each_fault_is_told_in_words() {
+    for (font, fault, words) in cases() {
+        let mut builder = JobBuilder::new();
+        builder.face(&fonts::weight(400)).unwrap();
+        let before = builder.build().unwrap();
+        for given in [
+            FontFile::new(&font),
+            FontFile::new(&font).whole().named("x"),
+        ] {
+            let error = builder.face(given).unwrap_err();
+            let Problem::Font {
+                refusal,
+                fault: told,
+            } = error.problem()
+            else {
+                panic!("{error}");
+            };
+            assert_eq!(told, fault);
+            assert_eq!(error.face(), Some(FaceId::new(1)));
+            assert_eq!(error.field(), "faces[1].font");
+            let text = error.to_string();
+            let start = format!("faces[1].font: refused {}: ", refusal.number());
+            assert!(text.starts_with(&start), "{text}");
+            assert!(
+                text.contains(refusal.meaning()) && text.contains(words),
+                "{text}"
+            );
+            let source = error.source().and_then(|source| source.downcast_ref());
+            assert_eq!(source, Some(&refusal));
+            assert_eq!(builder.build().as_ref(), Ok(&before));
+        }
+        assert_eq!(builder.face(&fonts::weight(700)), Ok(FaceId::new(1)));
+    }
+}
+
+#[test]
+fn the_numbers_are_the_picker_s() {
+    for (font, fault, _) in cases() {
+        let error = JobBuilder::new().face(&font).unwrap_err();
+        let expected = match fault {
+            FontFault::Axes { .. } => Refusal::TooManyAxes,
+            FontFault::NoCmap | FontFault::CmapPastEnd => Refusal::NoCharmap,
+            FontFault::CmapShort | FontFault::CmapRecords { .. } => Refusal::NoCharmap,
+            _ => Refusal::FontDirectory,
+        };
+        let problem = Problem::Font {
+            refusal: expected,
+            fault,
+        };
+        assert_eq!(error.problem(), problem);
+    }
+}
