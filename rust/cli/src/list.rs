@@ -1,0 +1,161 @@
+//! The command `list`: what was read of each face.
+
+use std::{
+    io::{self, BufWriter, IsTerminal, Write},
+    path::Path,
+};
+
+use stemhook::JobBuilder;
+
+use crate::{
+    face::Reading,
+    failure::Failure,
+    files::{self, Family, Skipped},
+    json::Json,
+    load::{are_there, differs, fault, is_usable, other_files},
+    options::Options,
+    overrides::names,
+    pick::skipped_json,
+    progress::Progress,
+    words::shown,
+};
+
+pub fn run(options: &Options) -> Result<(), Failure> {
+    let found = files::find(&options.inputs, options.recursive)?;
+    are_there(options, &found)?;
+    // On a terminal, the list itself says how far it is.
+    let quiet = options.quiet || io::stdout().is_terminal();
+    let mut list = List {
+        options,
+        out: BufWriter::new(io::stdout().lock()),
+        faces: 0,
+        skipped: Vec::new(),
+    };
+    let mut progress = Progress::new(found.files(), quiet);
+    let done = (|| {
+        list.start()?;
+        for family in &found.families {
+            list.family(family, &mut progress)?;
+        }
+        for skipped in found.skipped {
+            list.skip("", skipped)?;
+        }
+        drop(progress);
+        list.end(found.others)
+    })();
+    done.map_err(Failure::Output)?;
+    is_usable(list.faces, &list.skipped)
+}
+
+/// A list that is being written.
+struct List<'a, W> {
+    options: &'a Options,
+    out: W,
+    faces: usize,
+    skipped: Vec<Skipped>,
+}
+
+impl<W: Write> List<'_, W> {
+    fn start(&mut self) -> io::Result<()> {
+        if self.options.json {
+            self.out.write_all(b"{\n  \"faces\": [")?;
+        }
+        Ok(())
+    }
+
+    fn family(&mut self, family: &Family, progress: &mut Progress) -> io::Result<()> {
+        let mut indent = "";
+        if let (Some(folder), false) = (&family.folder, self.options.json) {
+            writeln!(self.out, "{}:", shown(folder))?;
+            indent = "  ";
+        }
+        for file in &family.files {
+            progress.step(file);
+            match self.read(file) {
+                Ok((own, after)) => self.face(indent, file, &own, after.as_ref())?,
+                Err(skipped) => self.skip(indent, skipped)?,
+            }
+        }
+        Ok(())
+    }
+
+    /// What a file says, and what it is after the overrides, if there are any.
+    fn read(&self, file: &Path) -> Result<(Reading, Option<Reading>), Skipped> {
+        let bytes = files::read(file).map_err(|reason| Skipped::new(file, reason))?;
+        // Whether it can be used is the picker's word.
+        if let Err(error) = JobBuilder::new().face(&bytes) {
+            let other = || Skipped::new(file, error.to_string());
+            return Err(fault(&error, file).unwrap_or_else(other));
+        }
+        let own = Reading::of(&bytes).ok_or_else(|| Skipped::new(file, differs(file)))?;
+        let mut after = None;
+        for given in &self.options.overrides {
+            if names(&given.file, file) {
+                after.get_or_insert_with(|| own.clone()).apply(&given.given);
+            }
+        }
+        Ok((own, after))
+    }
+
+    fn face(
+        &mut self,
+        indent: &str,
+        file: &Path,
+        own: &Reading,
+        after: Option<&Reading>,
+    ) -> io::Result<()> {
+        if self.options.json {
+            let comma = if self.faces == 0 { "" } else { "," };
+            let face = Json::Object(vec![
+                ("file", Json::path(file)),
+                ("read", own.json()),
+                ("overridden", after.map_or(Json::Null, Reading::json)),
+            ]);
+            write!(self.out, "{comma}\n    {}", face.spread(0))?;
+        } else {
+            let name = name(indent, file);
+            writeln!(self.out, "{indent}{name}: {}", own.words())?;
+            if let Some(after) = after {
+                writeln!(self.out, "{indent}  after overrides: {}", after.words())?;
+            }
+        }
+        self.faces += 1;
+        Ok(())
+    }
+
+    fn skip(&mut self, indent: &str, skipped: Skipped) -> io::Result<()> {
+        if !self.options.json {
+            let name = name(indent, &skipped.file);
+            writeln!(self.out, "{indent}{name}: unusable: {}", skipped.reason)?;
+        }
+        self.skipped.push(skipped);
+        Ok(())
+    }
+
+    fn end(&mut self, others: usize) -> io::Result<()> {
+        if self.options.json {
+            let skipped = self.skipped.iter().map(skipped_json).collect();
+            let skipped = Json::List(skipped).spread(1).replace('\n', "\n  ");
+            let end = if self.faces == 0 { "" } else { "\n  " };
+            write!(self.out, "{end}],\n  \"skipped\": {skipped},\n")?;
+            writeln!(self.out, "  \"passedOver\": {others}\n}}")?;
+        } else {
+            let plural = if self.faces == 1 { "" } else { "s" };
+            write!(self.out, "{} face{plural}", self.faces)?;
+            write!(self.out, ", {} unusable", self.skipped.len())?;
+            if others > 0 {
+                write!(self.out, ", {} passed over", other_files(others))?;
+            }
+            writeln!(self.out)?;
+        }
+        self.out.flush()
+    }
+}
+
+/// A file's name below its folder's, or its path.
+fn name(indent: &str, file: &Path) -> String {
+    match file.file_name() {
+        Some(name) if !indent.is_empty() => shown(name),
+        _ => shown(file),
+    }
+}

@@ -1,0 +1,114 @@
+//! Real fonts: files of Debian's packages, which `tools/install-fonts` installs.
+//! STEMHOOK_FONTS names the folder of fonts, if it is not Debian's.
+
+use std::{collections::HashMap, env, fs};
+
+use crate::{
+    common,
+    json::Value,
+    run::{Folder, stemhook},
+};
+
+const DEJAVU: &str = "truetype/dejavu";
+const CANTARELL: &str = "opentype/cantarell";
+const INTER: &str = "truetype/inter-vf";
+
+/// The three folders, if they are there; else the test is skipped.
+fn folders(test: &str) -> Option<[String; 3]> {
+    let fonts = env::var("STEMHOOK_FONTS").unwrap_or_else(|_| "/usr/share/fonts".into());
+    let folders = [DEJAVU, CANTARELL, INTER].map(|name| format!("{fonts}/{name}"));
+    if let Some(missing) = folders.iter().find(|folder| fs::metadata(folder).is_err()) {
+        let lack = format!("{missing} is not there: run tools/install-fonts");
+        common::skip(test, &lack);
+        return None;
+    }
+    Some(folders)
+}
+
+#[test]
+fn the_files_that_are_offered() {
+    let Some([dejavu, cantarell, inter]) = folders("the_files_that_are_offered") else {
+        return;
+    };
+    let inter = format!("{inter}/Inter.var.ttf");
+    let sans = ["DejaVuSans.ttf", "DejaVuSans-Bold.ttf"].map(|name| format!("{dejavu}/{name}"));
+    let words = [
+        "pick",
+        &inter,
+        "--fallback",
+        &sans[0],
+        &sans[1],
+        "--fallback",
+        &cantarell,
+    ];
+    let asked = ["--weight", "650", "--style", "oblique:12"];
+    let said = stemhook([&words[..], &asked].concat()).well();
+    let lines: Vec<&str> = said
+        .lines()
+        .map(|line| line.split(';').next().unwrap())
+        .collect();
+    let expected = [
+        "request 0: width 1, oblique 12, weight 650".to_owned(),
+        format!("  {inter}: wght=650, slnt=12"),
+        format!("  {}: skew 12", sans[1]),
+        format!("  {}: embolden, skew 12", sans[0]),
+        format!("  {cantarell}/Cantarell-Bold.otf: skew 12"),
+        format!("  {cantarell}/Cantarell-Regular.otf: embolden, skew 12"),
+    ];
+    assert_eq!(lines, expected);
+}
+
+/// What `list` says of a charmap is what the picker offers, file by file.
+#[test]
+fn the_plain_reading_and_the_picker_agree() {
+    let Some(folders) = folders("the_plain_reading_and_the_picker_agree") else {
+        return;
+    };
+    let folders = folders.each_ref().map(String::as_str);
+    let list = stemhook([&["list", "--json"], &folders[..]].concat()).well();
+    let list = Value::read(&list);
+    let faces = list["faces"].list();
+    assert!(faces.len() >= 33 && list["skipped"].list().is_empty());
+    let listed: HashMap<&str, &Value> = faces
+        .iter()
+        .map(|face| (face["file"].text(), &face["read"]))
+        .collect();
+    let mut compared = 0;
+    for (file, read) in listed {
+        let picked = stemhook(["pick", "--json", file]).well();
+        let picked = Value::read(&picked);
+        let offers = picked["requests"][0]["offers"].list();
+        assert_eq!(offers.len(), 1, "{file}");
+        assert_eq!(offers[0]["charmap"], read["charmap"], "{file}");
+        compared += 1;
+    }
+    assert_eq!(compared, faces.len());
+}
+
+#[test]
+fn a_page_of_them() {
+    let Some([dejavu, cantarell, inter]) = folders("a_page_of_them") else {
+        return;
+    };
+    let folder = Folder::new("real-page");
+    let page = folder.file("page.html");
+    let words = [
+        "specimen",
+        "-q",
+        &inter,
+        &cantarell,
+        "--fallback",
+        &dejavu,
+        "-o",
+        &page,
+    ];
+    stemhook([&words[..], &["--style=italic", "--weight=900"]].concat()).well();
+    let html = fs::read_to_string(&page).unwrap();
+    let said = stemhook([&["pick"], &words[2..6], &["--style=italic", "--weight=900"]].concat());
+    let said = said.well();
+    assert_eq!(
+        html.matches("<li class=\"offer\">").count(),
+        said.lines().count() - 1
+    );
+    assert!(html.ends_with("</html>\n"));
+}
