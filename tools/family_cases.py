@@ -3,9 +3,9 @@
 
     python3 tools/family_cases.py > crates/family_cases/stdout
 
-The model is of the refusals 19, 24 and 26 of 01's calls on a family or face by value, and of its sections 4 and 5 as far
-as the cases go: every face of an accepted case is normal. It shares nothing with the Rattle code but the cases, which
-stand there in the same order and under the same names.
+The model is of docs/GUIDE.md: the refusals 19, 24 and 26 of calls on a family or face by value (section 6), and sections
+4 and 5 as far as the cases go: every face of an accepted case is normal. It shares nothing with the Rattle code but the
+cases, which stand there in the same order and under the same names.
 """
 import math
 

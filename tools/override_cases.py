@@ -3,7 +3,7 @@
 
     python3 tools/override_cases.py > crates/override_cases/stdout
 
-The model is of section 3 of 01 (overrides), of its refusals 19 and 26 of calls on a face by value, and of the numbers
+The model is of docs/GUIDE.md: overrides (section 3), the refusals 19 and 26 of calls on a face by value, and the numbers
 that section 1 accepts. It shares nothing with the Rattle code but the cases, which stand there in the same order and
 under the same names.
 """
