@@ -23,6 +23,7 @@ use Rattle.font.specs.First.{every}
 use Rattle.font.specs.Single.{single, fixedToSingle, acceptedRatio}
 use Rattle.font.specs.Attributes.{attributesOf, defaultAttributes, acceptedAngle, acceptedStyle, acceptedAttributes}
 use Rattle.font.specs.Tables.{u16At, u32At, findTable, partOf, tableData}
+use Rattle.font.specs.Collection.{fontStart}
 use Rattle.font.specs.Reading.{present, bit, thousandths, classWidths, widthOfClass, postAngle, os2Style, fromOs2Post, headStyle, headWeight, fromHead, readAttributes}
 use Rattle.font.specs.Font.{fvarOf, axisCount, axisAt, axesOf, emptyFont, faceOf, fromFontRef}
 use Rattle.font.specs.Overrides.{axisOf, acceptedAxis, acceptedFace, refusalOf}
@@ -69,9 +70,9 @@ unfolding partOf
 part-bytes font h Absent i = lit< tt
 part-bytes font h (Found offset len) i = take-bytes len (drop offset font) (drop-bytes offset font h) i
 
-table-bytes : (font : List ℕ) (tag least : ℕ) → Bytes font → Bytes (tableData font tag least)
+table-bytes : (font : List ℕ) (start tag least : ℕ) → Bytes font → Bytes (tableData font start tag least)
 unfolding tableData
-table-bytes font tag least h i = part-bytes font h (findTable font tag least) i
+table-bytes font start tag least h i = part-bytes font h (findTable font start tag least) i
 
 -- ---- numbers
 fixed-finite : (n : ℕ) → n < 2 ^ 32 → finite (fixedToSingle n) ≡ true
@@ -144,21 +145,21 @@ default-accepted : acceptedAttributes defaultAttributes ≡ true
 unfolding defaultAttributes
 default-accepted = made (single 1) Normal (single 400) one-accepted (upright false) (single-finite 400 (lit< tt))
 
-attributes-accepted : (font : List ℕ) → Bytes font → acceptedAttributes (readAttributes font) ≡ true
+attributes-accepted : (font : List ℕ) (start : ℕ) → Bytes font → acceptedAttributes (readAttributes font start) ≡ true
 unfolding readAttributes
-attributes-accepted font h = go (present (tableData font 0x4F532F32 78)) (present (tableData font 0x68656164 54))
+attributes-accepted font start h = go (present (tableData font start 0x4F532F32 78)) (present (tableData font start 0x68656164 54))
   where
     os2 : List ℕ
-    os2 = tableData font 0x4F532F32 78
+    os2 = tableData font start 0x4F532F32 78
 
     post : List ℕ
-    post = tableData font 0x706F7374 32
+    post = tableData font start 0x706F7374 32
 
     head : List ℕ
-    head = tableData font 0x68656164 54
+    head = tableData font start 0x68656164 54
 
     go : (a b : Bool) → acceptedAttributes (cond a (fromOs2Post os2 post) (cond b (fromHead head) defaultAttributes)) ≡ true
-    go true b = os2-accepted os2 post (table-bytes font 0x4F532F32 78 h) (table-bytes font 0x706F7374 32 h)
+    go true b = os2-accepted os2 post (table-bytes font start 0x4F532F32 78 h) (table-bytes font start 0x706F7374 32 h)
     go false true = head-accepted head
     go false false = default-accepted
 
@@ -190,20 +191,20 @@ empty-fine : Fine emptyFont
 unfolding emptyFont
 empty-fine = (omega arith, empty-accepted)
 
-face-fine : (font : List ℕ) → Bytes font → axisCount (fvarOf font) ≤ 16 → Fine (faceOf font)
+face-fine : (font : List ℕ) (start : ℕ) → Bytes font → axisCount (fvarOf font start) ≤ 16 → Fine (faceOf font start)
 unfolding acceptedFace fvarOf faceOf
-face-fine font h l =
-    let fvar = tableData font 0x66766172 16 in
-    (l, rw (attributes-accepted font h, axes-accepted fvar (axisCount fvar) (table-bytes font 0x66766172 16 h) l))
+face-fine font start h l =
+    let fvar = tableData font start 0x66766172 16 in
+    (l, rw (attributes-accepted font start h, axes-accepted fvar (axisCount fvar) (table-bytes font start 0x66766172 16 h) l))
 
-read-fine : (font : List ℕ) → Bytes font → Fine (fromFontRef font .font)
-read-fine font h = each-face Fine font empty-fine (λ z. face-fine font h (few-stated font z))
+read-fine : (font : List ℕ) (number : ℕ) → Bytes font → Fine (fromFontRef font number .font)
+read-fine font number h = each-face Fine font number empty-fine (λ z. face-fine font (fontStart font number) h (few-stated font number z))
 
 -- the face that a font gives has only accepted numbers
-pub read-accepted : (font : List ℕ) → Bytes font → acceptedFace (fromFontRef font .font) ≡ true
-read-accepted font h = read-fine font h .1
+pub read-accepted : (font : List ℕ) (number : ℕ) → Bytes font → acceptedFace (fromFontRef font number .font) ≡ true
+read-accepted font number h = read-fine font number h .1
 
 -- so that a call on it refuses only for what is given beside it
-pub read-not-refused : (font : List ℕ) → Bytes font → (given : Bool) → refusalOf (fromFontRef font .font) given ≡ cond given 0 26
+pub read-not-refused : (font : List ℕ) (number : ℕ) → Bytes font → (given : Bool) → refusalOf (fromFontRef font number .font) given ≡ cond given 0 26
 unfolding refusalOf
-read-not-refused font h given = rw (le-leb (fromFontRef font .font .«axis_count») 16 (read-fine font h .0), read-accepted font h)
+read-not-refused font number h given = rw (le-leb (fromFontRef font number .font .«axis_count») 16 (read-fine font number h .0), read-accepted font number h)

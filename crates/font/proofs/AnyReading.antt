@@ -13,22 +13,25 @@ use Rattle.font.specs.declared.tables.Table.the-variants.{Absent, Found}
 use Rattle.font.specs.declared.charmap.CharmapIndex.{CharmapIndex}
 use Rattle.font.specs.declared.charmap.Charmap.the-variants.{Missing, Index}
 use Rattle.font.specs.declared.font.AxisInfo.{AxisInfo}
+use Rattle.font.specs.declared.font.Checked.{Checked}
+use Rattle.font.specs.declared.font.FontInfo.{FontInfo}
 use Rattle.font.specs.Attributes.{defaultAttributes}
 use Rattle.font.specs.Tables.{u16At, u32At, startsAsFont, recordCount, recordTag, recordOffset, recordLength, directoryFits, firstRecord, tableOfRecord, findTable, partOf, tableData}
+use Rattle.font.specs.Collection.{isCollection, headerFits, fontCount, offsetsFit, offsetOf, fontStart}
 use Rattle.font.specs.Reading.{present, postAngle, os2Style, fromOs2Post, fromHead, readAttributes}
 use Rattle.font.specs.First.{first}
 use Rattle.font.specs.Charmap.{classOf, subtableOffset, liesIn, pairClass, qualifies, recordClass, someQualifies, bestClass, bestRecord, indexOf, indexIn, charmapIndex}
-use Rattle.font.specs.Font.{fvarOf, axisCount, axisAt, noAxis, axesOf, fontRefusal, faceOf, fromFontRef, statesAxis}
-use Rattle.font.proofs.FieldReadings.{Fields, bytesAt, fitsBy, recordBy, tableBy, findBy, angleBy, os2By, headBy, statedBy, attributesBy, countInBy, axisCountBy, axisBy, axesBy, statesBy, classBy, qualifiesBy, recordClassBy, indexInBy, indexBy, refusalBy, faceBy, fontBy}
+use Rattle.font.specs.Font.{fvarOf, axisCount, axisAt, noAxis, axesOf, refusalAt, fontRefusal, emptyFont, faceOf, checkedBy, fromFontRef, statesAxis}
+use Rattle.font.proofs.FieldReadings.{Fields, bytesAt, countBy, startBy, fitsBy, recordBy, tableBy, findBy, angleBy, os2By, headBy, statedBy, attributesBy, countInBy, axisCountBy, axisBy, axesBy, statesBy, classBy, qualifiesBy, recordClassBy, indexInBy, indexBy, refusalAtBy, refusalBy, faceBy, fontBy}
 use Rattle.font.proofs.First.{first-same}
 use Rattle.font.proofs.Tabulated.{same}
 use Rattle.font.proofs.Lookup.{records-inside, long}
 use Rattle.font.proofs.Records.{inside, best-qualified}
 
 -- ---- a found table has its bytes
-there : (font : List ℕ) (tag least offset len : ℕ) → findTable font tag least ≡ Found offset len → 0 < least → present (bytesAt font offset len) ≡ true
+there : (font : List ℕ) (start tag least offset len : ℕ) → findTable font start tag least ≡ Found offset len → 0 < least → present (bytesAt font offset len) ≡ true
 unfolding present
-there font tag least offset len e l = lt-ltb 0 (length (bytesAt font offset len)) (omega (arith, long font tag least offset len e))
+there font start tag least offset len e l = lt-ltb 0 (length (bytesAt font offset len)) (omega (arith, long font start tag least offset len e))
 
 -- ---- what a test of the definitions says of the fields that they then read
 
@@ -64,52 +67,52 @@ filled other16 other32 =
 
 module _ (r16 r32 : Fields) (right : Right r16 r32) where
   -- ---- the directory
-  fits-same : (font : List ℕ) → fitsBy r16 r32 font ≡ directoryFits font
+  fits-same : (font : List ℕ) (start : ℕ) → fitsBy r16 r32 font start ≡ directoryFits font start
   unfolding fitsBy directoryFits recordCount
-  fits-same font = go (leb 12 (length font)) refl
+  fits-same font start = go (leb (start + 12) (length font)) refl
     where
-      go : (b : Bool) → leb 12 (length font) ≡ b
-          → (b && (startsAsFont (r32 font 0) && leb (12 + 16 * r16 font 4) (length font))) ≡ (b && (startsAsFont (u32At font 0) && leb (12 + 16 * u16At font 4) (length font)))
-      go true e = let l = leb-true 12 (length font) e in rw (right .whole32 font 0 (omega arith), right .whole16 font 4 (omega arith))
+      go : (b : Bool) → leb (start + 12) (length font) ≡ b
+          → (b && (startsAsFont (r32 font start) && leb (start + 12 + 16 * r16 font (start + 4)) (length font))) ≡ (b && (startsAsFont (u32At font start) && leb (start + 12 + 16 * u16At font (start + 4)) (length font)))
+      go true e = let l = leb-true (start + 12) (length font) e in rw (right .whole32 font start (omega arith), right .whole16 font (start + 4) (omega arith))
       go false e = refl
 
-  module _ (font : List ℕ) (fits : directoryFits font ≡ true) where
-    count-same : r16 font 4 ≡ recordCount font
+  module _ (font : List ℕ) (start : ℕ) (fits : directoryFits font start ≡ true) where
+    count-same : r16 font (start + 4) ≡ recordCount font start
     unfolding recordCount
-    count-same = right .whole16 font 4 (omega (arith, records-inside font fits))
+    count-same = right .whole16 font (start + 4) (omega (arith, records-inside font start fits))
 
-    record-same : (tag : ℕ) → recordBy r16 r32 font tag ≡ firstRecord font tag
+    record-same : (tag : ℕ) → recordBy r16 r32 font start tag ≡ firstRecord font start tag
     unfolding recordBy firstRecord recordTag
     record-same tag =
         rw count-same
-        (first-same (λ i. eqb (r32 font (12 + 16 * i)) tag) (λ i. eqb (u32At font (12 + 16 * i)) tag) (recordCount font)
-        (λ i l. ap (λ (t : ℕ). eqb t tag) (right .whole32 font (12 + 16 * i) (omega (arith, records-inside font fits)))))
+        (first-same (λ i. eqb (r32 font (start + 12 + 16 * i)) tag) (λ i. eqb (u32At font (start + 12 + 16 * i)) tag) (recordCount font start)
+        (λ i l. ap (λ (t : ℕ). eqb t tag) (right .whole32 font (start + 12 + 16 * i) (omega (arith, records-inside font start fits)))))
 
-    table-same : (least i : ℕ) → i < recordCount font → tableBy r16 r32 font least i ≡ tableOfRecord font least i
+    table-same : (least i : ℕ) → i < recordCount font start → tableBy r16 r32 font start least i ≡ tableOfRecord font start least i
     unfolding tableBy tableOfRecord recordOffset recordLength
     table-same least i l =
-        rw (right .whole32 font (24 + 16 * i) (omega (arith, records-inside font fits)), right .whole32 font (20 + 16 * i) (omega (arith, records-inside font fits)))
+        rw (right .whole32 font (start + 24 + 16 * i) (omega (arith, records-inside font start fits)), right .whole32 font (start + 20 + 16 * i) (omega (arith, records-inside font start fits)))
 
-  find-same : (font : List ℕ) (tag least : ℕ) → findBy r16 r32 font tag least ≡ findTable font tag least
+  find-same : (font : List ℕ) (start tag least : ℕ) → findBy r16 r32 font start tag least ≡ findTable font start tag least
   unfolding findBy findTable
-  find-same font tag least = rw (fits-same font) (go (directoryFits font) refl)
+  find-same font start tag least = rw (fits-same font start) (go (directoryFits font start) refl)
     where
-      go : (b : Bool) → directoryFits font ≡ b
-          → cond (b && ltb (recordBy r16 r32 font tag) (r16 font 4)) (tableBy r16 r32 font least (recordBy r16 r32 font tag)) Absent
-          ≡ cond (b && ltb (firstRecord font tag) (recordCount font)) (tableOfRecord font least (firstRecord font tag)) Absent
+      go : (b : Bool) → directoryFits font start ≡ b
+          → cond (b && ltb (recordBy r16 r32 font start tag) (r16 font (start + 4))) (tableBy r16 r32 font start least (recordBy r16 r32 font start tag)) Absent
+          ≡ cond (b && ltb (firstRecord font start tag) (recordCount font start)) (tableOfRecord font start least (firstRecord font start tag)) Absent
       go false e = refl
-      go true e = rw (count-same font e, record-same font e tag) (found (ltb (firstRecord font tag) (recordCount font)) refl)
+      go true e = rw (count-same font start e, record-same font start e tag) (found (ltb (firstRecord font start tag) (recordCount font start)) refl)
         where
-          found : (b : Bool) → ltb (firstRecord font tag) (recordCount font) ≡ b
-              → cond b (tableBy r16 r32 font least (firstRecord font tag)) Absent ≡ cond b (tableOfRecord font least (firstRecord font tag)) Absent
-          found true l = table-same font e least (firstRecord font tag) (ltb-true (firstRecord font tag) (recordCount font) l)
+          found : (b : Bool) → ltb (firstRecord font start tag) (recordCount font start) ≡ b
+              → cond b (tableBy r16 r32 font start least (firstRecord font start tag)) Absent ≡ cond b (tableOfRecord font start least (firstRecord font start tag)) Absent
+          found true l = table-same font start e least (firstRecord font start tag) (ltb-true (firstRecord font start tag) (recordCount font start) l)
           found false l = refl
 
   -- ---- attributes
-  angle-same : (font : List ℕ) (t : Table) → findTable font 0x706F7374 32 ≡ t → angleBy r16 r32 font t ≡ postAngle (partOf font t)
+  angle-same : (font : List ℕ) (start : ℕ) (t : Table) → findTable font start 0x706F7374 32 ≡ t → angleBy r16 r32 font t ≡ postAngle (partOf font t)
   unfolding angleBy postAngle partOf present
-  angle-same font Absent e = refl
-  angle-same font (Found o n) e = rw (there font 0x706F7374 32 o n e (omega arith), right .whole32 (bytesAt font o n) 4 (omega (arith, long font 0x706F7374 32 o n e)))
+  angle-same font start Absent e = refl
+  angle-same font start (Found o n) e = rw (there font start 0x706F7374 32 o n e (omega arith), right .whole32 (bytesAt font o n) 4 (omega (arith, long font start 0x706F7374 32 o n e)))
 
   os2-same : (os2 post : List ℕ) → 78 ≤ length os2 → os2By r16 r32 os2 (postAngle post) ≡ fromOs2Post os2 post
   unfolding os2By fromOs2Post os2Style
@@ -119,30 +122,30 @@ module _ (r16 r32 : Fields) (right : Right r16 r32) where
   unfolding headBy fromHead
   head-same head l = rw (right .whole16 head 44 (omega arith))
 
-  stated-same : (font : List ℕ) (os2 post head : Table) → findTable font 0x4F532F32 78 ≡ os2 → findTable font 0x706F7374 32 ≡ post → findTable font 0x68656164 54 ≡ head
+  stated-same : (font : List ℕ) (start : ℕ) (os2 post head : Table) → findTable font start 0x4F532F32 78 ≡ os2 → findTable font start 0x706F7374 32 ≡ post → findTable font start 0x68656164 54 ≡ head
       → statedBy r16 r32 font os2 post head
       ≡ cond (present (partOf font os2)) (fromOs2Post (partOf font os2) (partOf font post)) (cond (present (partOf font head)) (fromHead (partOf font head)) defaultAttributes)
   unfolding statedBy partOf present
-  stated-same font (Found o n) post head e p h =
-      rw (there font 0x4F532F32 78 o n e (omega arith), angle-same font post p) (os2-same (bytesAt font o n) (partOf font post) (long font 0x4F532F32 78 o n e))
-  stated-same font Absent post (Found o n) e p h =
-      rw (there font 0x68656164 54 o n h (omega arith)) (head-same (bytesAt font o n) (long font 0x68656164 54 o n h))
-  stated-same font Absent post Absent e p h = refl
+  stated-same font start (Found o n) post head e p h =
+      rw (there font start 0x4F532F32 78 o n e (omega arith), angle-same font start post p) (os2-same (bytesAt font o n) (partOf font post) (long font start 0x4F532F32 78 o n e))
+  stated-same font start Absent post (Found o n) e p h =
+      rw (there font start 0x68656164 54 o n h (omega arith)) (head-same (bytesAt font o n) (long font start 0x68656164 54 o n h))
+  stated-same font start Absent post Absent e p h = refl
 
-  pub attributes-same : (font : List ℕ) → attributesBy r16 r32 font ≡ readAttributes font
+  pub attributes-same : (font : List ℕ) (start : ℕ) → attributesBy r16 r32 font start ≡ readAttributes font start
   unfolding attributesBy readAttributes tableData
-  attributes-same font =
-      rw (find-same font 0x4F532F32 78, find-same font 0x706F7374 32, find-same font 0x68656164 54)
-      (stated-same font (findTable font 0x4F532F32 78) (findTable font 0x706F7374 32) (findTable font 0x68656164 54) refl refl refl)
+  attributes-same font start =
+      rw (find-same font start 0x4F532F32 78, find-same font start 0x706F7374 32, find-same font start 0x68656164 54)
+      (stated-same font start (findTable font start 0x4F532F32 78) (findTable font start 0x706F7374 32) (findTable font start 0x68656164 54) refl refl refl)
 
   -- ---- axes
   count-in-same : (fvar : List ℕ) → 16 ≤ length fvar → present fvar ≡ true → countInBy r16 r32 fvar ≡ axisCount fvar
   unfolding countInBy axisCount
   count-in-same fvar l h = rw (h, right .whole16 fvar 10 (omega arith), right .whole16 fvar 4 (omega arith), right .whole16 fvar 8 (omega arith))
 
-  module _ (font : List ℕ) (o n : ℕ) (e : findTable font 0x66766172 16 ≡ Found o n) where
+  module _ (font : List ℕ) (start o n : ℕ) (e : findTable font start 0x66766172 16 ≡ Found o n) where
     found-count : countInBy r16 r32 (bytesAt font o n) ≡ axisCount (bytesAt font o n)
-    found-count = count-in-same (bytesAt font o n) (long font 0x66766172 16 o n e) (there font 0x66766172 16 o n e (omega arith))
+    found-count = count-in-same (bytesAt font o n) (long font start 0x66766172 16 o n e) (there font start 0x66766172 16 o n e (omega arith))
 
     found-axis : (i : ℕ) → i < axisCount (bytesAt font o n) → axisBy r16 r32 (bytesAt font o n) i ≡ axisAt (bytesAt font o n) i
     unfolding axisBy axisAt
@@ -150,41 +153,41 @@ module _ (r16 r32 : Fields) (right : Right r16 r32) where
         let fvar = bytesAt font o n in
         let at = u16At fvar 4 + 20 * i in
         let end = axis-inside fvar i l in
-        rw (right .whole16 fvar 4 (omega (arith, long font 0x66766172 16 o n e)), right .whole32 fvar at (omega arith), right .whole32 fvar (at + 4) (omega arith), right .whole32 fvar (at + 8) (omega arith), right .whole32 fvar (at + 12) (omega arith))
+        rw (right .whole16 fvar 4 (omega (arith, long font start 0x66766172 16 o n e)), right .whole32 fvar at (omega arith), right .whole32 fvar (at + 4) (omega arith), right .whole32 fvar (at + 8) (omega arith), right .whole32 fvar (at + 12) (omega arith))
 
-  axis-count-same : (font : List ℕ) (t : Table) → findTable font 0x66766172 16 ≡ t → axisCountBy r16 r32 font t ≡ axisCount (partOf font t)
+  axis-count-same : (font : List ℕ) (start : ℕ) (t : Table) → findTable font start 0x66766172 16 ≡ t → axisCountBy r16 r32 font t ≡ axisCount (partOf font t)
   unfolding axisCountBy axisCount partOf present
-  axis-count-same font Absent e = refl
-  axis-count-same font (Found o n) e = found-count font o n e
+  axis-count-same font start Absent e = refl
+  axis-count-same font start (Found o n) e = found-count font start o n e
 
-  axes-same : (font : List ℕ) (t : Table) → findTable font 0x66766172 16 ≡ t → axesBy r16 r32 font t ≡ axesOf (partOf font t) (axisCount (partOf font t))
+  axes-same : (font : List ℕ) (start : ℕ) (t : Table) → findTable font start 0x66766172 16 ≡ t → axesBy r16 r32 font t ≡ axesOf (partOf font t) (axisCount (partOf font t))
   unfolding axesBy axesOf partOf present axisCount
-  axes-same font Absent e = same (λ i. noAxis) (λ i. cond (ltb i 0) (axisAt [] i) noAxis) 16 noAxis (λ i l. rw (le-ltb i 0 (omega arith)))
-  axes-same font (Found o n) e =
+  axes-same font start Absent e = same (λ i. noAxis) (λ i. cond (ltb i 0) (axisAt [] i) noAxis) 16 noAxis (λ i l. rw (le-ltb i 0 (omega arith)))
+  axes-same font start (Found o n) e =
       let fvar = bytesAt font o n in
-      rw (found-count font o n e)
+      rw (found-count font start o n e)
       (same (λ i. cond (ltb i (axisCount fvar)) (axisBy r16 r32 fvar i) noAxis) (λ i. cond (ltb i (axisCount fvar)) (axisAt fvar i) noAxis) 16 noAxis
       (λ i l. at i (ltb i (axisCount fvar)) refl))
     where
       at : (i : ℕ) (b : Bool) → ltb i (axisCount (bytesAt font o n)) ≡ b
           → cond b (axisBy r16 r32 (bytesAt font o n) i) noAxis ≡ cond b (axisAt (bytesAt font o n) i) noAxis
-      at i true g = found-axis font o n e i (ltb-true i (axisCount (bytesAt font o n)) g)
+      at i true g = found-axis font start o n e i (ltb-true i (axisCount (bytesAt font o n)) g)
       at i false g = refl
 
-  states-same : (font : List ℕ) (tag : ℕ) (t : Table) → findTable font 0x66766172 16 ≡ t
+  states-same : (font : List ℕ) (start tag : ℕ) (t : Table) → findTable font start 0x66766172 16 ≡ t
       → statesBy r16 r32 font tag t ≡ ltb (first (λ i. eqb (axisAt (partOf font t) i .tag) tag) (axisCount (partOf font t))) (axisCount (partOf font t))
   unfolding statesBy partOf present axisCount first
-  states-same font tag Absent e = refl
-  states-same font tag (Found o n) e =
+  states-same font start tag Absent e = refl
+  states-same font start tag (Found o n) e =
       let fvar = bytesAt font o n in
-      rw (found-count font o n e)
+      rw (found-count font start o n e)
       (ap (λ (k : ℕ). ltb k (axisCount fvar))
       (first-same (λ i. eqb (axisBy r16 r32 fvar i .tag) tag) (λ i. eqb (axisAt fvar i .tag) tag) (axisCount fvar)
-      (λ i l. ap (λ (a : AxisInfo). eqb (a .tag) tag) (found-axis font o n e i l))))
+      (λ i l. ap (λ (a : AxisInfo). eqb (a .tag) tag) (found-axis font start o n e i l))))
 
-  pub axis-stated-same : (font : List ℕ) (tag : ℕ) → statesBy r16 r32 font tag (findBy r16 r32 font 0x66766172 16) ≡ statesAxis font tag
+  pub axis-stated-same : (font : List ℕ) (start tag : ℕ) → statesBy r16 r32 font tag (findBy r16 r32 font start 0x66766172 16) ≡ statesAxis font start tag
   unfolding statesAxis fvarOf tableData
-  axis-stated-same font tag = rw (find-same font 0x66766172 16) (states-same font tag (findTable font 0x66766172 16) refl)
+  axis-stated-same font start tag = rw (find-same font start 0x66766172 16) (states-same font start tag (findTable font start 0x66766172 16) refl)
 
   -- ---- `cmap`
   qualifies-same : (cmap : List ℕ) (i : ℕ) → qualifiesBy r16 r32 cmap i ≡ qualifies cmap i
@@ -226,32 +229,67 @@ module _ (r16 r32 : Fields) (right : Right r16 r32) where
       go true e = rw (right .whole32 cmap (8 + 8 * bestRecord cmap) (omega (arith, inside cmap (bestRecord cmap) (best-qualified cmap e) .0)))
       go false e = refl
 
-  index-same : (font : List ℕ) (t : Table) → findTable font 0x636D6170 4 ≡ t → indexBy r16 r32 font t ≡ indexIn font t
+  index-same : (font : List ℕ) (start : ℕ) (t : Table) → findTable font start 0x636D6170 4 ≡ t → indexBy r16 r32 font t ≡ indexIn font t
   unfolding indexBy indexIn partOf
-  index-same font Absent e = refl
-  index-same font (Found o n) e = index-in-same o (bytesAt font o n) (long font 0x636D6170 4 o n e)
+  index-same font start Absent e = refl
+  index-same font start (Found o n) e = index-in-same o (bytesAt font o n) (long font start 0x636D6170 4 o n e)
 
-  pub charmap-same : (font : List ℕ) → indexBy r16 r32 font (findBy r16 r32 font 0x636D6170 4) ≡ charmapIndex font
+  pub charmap-same : (font : List ℕ) (start : ℕ) → indexBy r16 r32 font (findBy r16 r32 font start 0x636D6170 4) ≡ charmapIndex font start
   unfolding charmapIndex
-  charmap-same font = rw (find-same font 0x636D6170 4) (index-same font (findTable font 0x636D6170 4) refl)
+  charmap-same font start = rw (find-same font start 0x636D6170 4) (index-same font start (findTable font start 0x636D6170 4) refl)
 
   -- ---- the refusal and the face
-  count-of-same : (font : List ℕ) → axisCountBy r16 r32 font (findBy r16 r32 font 0x66766172 16) ≡ axisCount (fvarOf font)
+  count-of-same : (font : List ℕ) (start : ℕ) → axisCountBy r16 r32 font (findBy r16 r32 font start 0x66766172 16) ≡ axisCount (fvarOf font start)
   unfolding fvarOf tableData
-  count-of-same font = rw (find-same font 0x66766172 16) (axis-count-same font (findTable font 0x66766172 16) refl)
+  count-of-same font start = rw (find-same font start 0x66766172 16) (axis-count-same font start (findTable font start 0x66766172 16) refl)
 
-  axes-of-same : (font : List ℕ) → axesBy r16 r32 font (findBy r16 r32 font 0x66766172 16) ≡ axesOf (fvarOf font) (axisCount (fvarOf font))
+  axes-of-same : (font : List ℕ) (start : ℕ) → axesBy r16 r32 font (findBy r16 r32 font start 0x66766172 16) ≡ axesOf (fvarOf font start) (axisCount (fvarOf font start))
   unfolding fvarOf tableData
-  axes-of-same font = rw (find-same font 0x66766172 16) (axes-same font (findTable font 0x66766172 16) refl)
+  axes-of-same font start = rw (find-same font start 0x66766172 16) (axes-same font start (findTable font start 0x66766172 16) refl)
 
-  refusal-same : (font : List ℕ) → refusalBy r16 r32 font ≡ fontRefusal font
-  unfolding refusalBy fontRefusal
-  refusal-same font = rw (fits-same font, charmap-same font, count-of-same font)
+  at-same : (font : List ℕ) (start : ℕ) → refusalAtBy r16 r32 font start ≡ refusalAt font start
+  unfolding refusalAtBy refusalAt
+  at-same font start = rw (fits-same font start, charmap-same font start, count-of-same font start)
 
-  face-same : (font : List ℕ) → faceBy r16 r32 font ≡ faceOf font
+  face-same : (font : List ℕ) (start : ℕ) → faceBy r16 r32 font start ≡ faceOf font start
   unfolding faceBy faceOf
-  face-same font = rw (attributes-same font, axes-of-same font, count-of-same font, charmap-same font)
+  face-same font start = rw (attributes-same font start, axes-of-same font start, count-of-same font start, charmap-same font start)
 
-  pub font-same : (font : List ℕ) → fontBy r16 r32 font ≡ fromFontRef font
-  unfolding fontBy fromFontRef
-  font-same font = rw (refusal-same font, face-same font)
+  -- ---- the fonts of a file
+  module _ (font : List ℕ) (header : headerFits font ≡ true) where
+    fonts-same : countBy r16 r32 font ≡ fontCount font
+    unfolding countBy fontCount isCollection headerFits
+    fonts-same = let l = leb-true 12 (length font) header in rw (right .whole32 font 0 (omega arith), right .whole32 font 8 (omega arith))
+
+    offset-same : (number : ℕ) → number < fontCount font → startBy r16 r32 font number ≡ offsetOf font number
+    unfolding startBy offsetOf offsetsFit isCollection headerFits
+    offset-same number l =
+        let long = leb-true 12 (length font) header in
+        rw (right .whole32 font 0 (omega arith), fonts-same) (go (isCollection font) (offsetsFit font) refl)
+      where
+        go : (a b : Bool) → offsetsFit font ≡ b
+            → cond a (cond b (r32 font (12 + 4 * number)) (length font)) 0 ≡ cond a (cond b (u32At font (12 + 4 * number)) (length font)) 0
+        go true true e = right .whole32 font (12 + 4 * number) (omega (arith, leb-true (12 + 4 * fontCount font) (length font) e))
+        go true false e = refl
+        go false b e = refl
+
+  -- which font is refused, and by which number
+  pub font-same : (font : List ℕ) (number : ℕ) → fontBy r16 r32 font number ≡ fromFontRef font number
+  unfolding fontBy fromFontRef checkedBy refusalBy fontRefusal fontStart headerFits
+  font-same font number = go (leb 12 (length font)) refl
+    where
+      face : ℕ → FontInfo → Checked
+      face refusal f = record { refusal = refusal; font = cond (eqb refusal 0) f emptyFont }
+
+      below : (b : Bool) → ltb number (fontCount font) ≡ b → leb 12 (length font) ≡ true
+          → face (cond b (refusalAtBy r16 r32 font (startBy r16 r32 font number)) 30) (faceBy r16 r32 font (startBy r16 r32 font number))
+          ≡ face (cond b (refusalAt font (cond b (offsetOf font number) (length font))) 30) (faceOf font (cond b (offsetOf font number) (length font)))
+      below true e h =
+          rw (offset-same font h number (ltb-true number (fontCount font) e), at-same font (offsetOf font number), face-same font (offsetOf font number))
+      below false e h = refl
+
+      go : (b : Bool) → leb 12 (length font) ≡ b
+          → face (cond b (cond (ltb number (countBy r16 r32 font)) (refusalAtBy r16 r32 font (startBy r16 r32 font number)) 30) 21) (faceBy r16 r32 font (startBy r16 r32 font number))
+          ≡ face (cond b (cond (ltb number (fontCount font)) (refusalAt font (fontStart font number)) 30) 21) (faceOf font (fontStart font number))
+      go true h = rw (fonts-same font h) (below (ltb number (fontCount font)) refl h)
+      go false h = refl

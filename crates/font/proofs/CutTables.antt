@@ -141,18 +141,19 @@ module _ (s t : ℕ → ℕ → List ℕ) (long : (tag least : ℕ) → NoneOrLo
         cmap = cut-records (h .cmap);
       }
 
--- ---- font files
+-- ---- font files, each from its directory's start on
 
-pub read-equal : (f g : List ℕ) → directoryFits f ≡ directoryFits g → EqualTables (tableData f) (tableData g) → SameReading f g
-read-equal f g e h = read-alike f g e (equal-same (tableData f) (tableData g) (none-or-long f) h)
+module _ (f : List ℕ) (a : ℕ) (g : List ℕ) (b : ℕ) (fits : directoryFits f a ≡ directoryFits g b) where
+  pub read-equal : EqualTables (tableData f a) (tableData g b) → SameReading f a g b
+  read-equal h = read-alike f a g b fits (equal-same (tableData f a) (tableData g b) (none-or-long f a) h)
 
-pub read-cut : (f g : List ℕ) → directoryFits f ≡ directoryFits g → CutTables (tableData f) (tableData g) → SameReading f g
-read-cut f g e h = read-alike f g e (cut-same (tableData f) (tableData g) (none-or-long f) h)
+  pub read-cut : CutTables (tableData f a) (tableData g b) → SameReading f a g b
+  read-cut h = read-alike f a g b fits (cut-same (tableData f a) (tableData g b) (none-or-long f a) h)
 
--- a file with no directory that fits has no tables
-no-tables : (font : List ℕ) (tag least : ℕ) → directoryFits font ≡ false → tableData font tag least ≡ []
+-- where no directory fits there are no tables
+no-tables : (font : List ℕ) (start tag least : ℕ) → directoryFits font start ≡ false → tableData font start tag least ≡ []
 unfolding tableData findTable partOf
-no-tables font tag least e = rw e
+no-tables font start tag least e = rw e
 
-pub read-none : (f g : List ℕ) → directoryFits f ≡ false → directoryFits g ≡ false → SameReading f g
-read-none f g e h = read-equal f g (e ∙ sym h) (λ tag least t. no-tables f tag least e ∙ sym (no-tables g tag least h))
+pub read-none : (f : List ℕ) (a : ℕ) (g : List ℕ) (b : ℕ) → directoryFits f a ≡ false → directoryFits g b ≡ false → SameReading f a g b
+read-none f a g b e h = read-equal f a g b (e ∙ sym h) (λ tag least t. no-tables f a tag least e ∙ sym (no-tables g b tag least h))

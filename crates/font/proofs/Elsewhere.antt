@@ -14,7 +14,7 @@ use Rattle.font.specs.declared.tables.Table.{Table}
 use Rattle.font.specs.declared.tables.Table.the-variants.{Absent, Found}
 use Rattle.font.specs.Tables.{recordCount, recordTag, recordOffset, recordLength, directoryFits, firstRecord, tableOfRecord, findTable, partOf, tableData}
 use Rattle.font.specs.Charmap.{indexOf, indexIn, charmapIndex}
-use Rattle.font.specs.Font.{faceOf, fromFontRef}
+use Rattle.font.specs.Font.{faceOf, checkedBy, checkedAt}
 use Rattle.font.specs.LookedAt.{Agree, Five, cmap}
 use Rattle.font.proofs.First.{first-same}
 use Rattle.font.proofs.Lookup.{records-inside, within}
@@ -22,82 +22,82 @@ use Rattle.font.proofs.LookedAt.{field16, field32}
 use Rattle.font.proofs.CutTables.{read-equal}
 
 -- where the table of the first record with a tag ends
-abbrev pub endOf : List ℕ → ℕ → ℕ
-endOf font tag = recordOffset font (firstRecord font tag) + recordLength font (firstRecord font tag)
+abbrev pub endOf : List ℕ → ℕ → ℕ → ℕ
+endOf font start tag = recordOffset font start (firstRecord font start tag) + recordLength font start (firstRecord font start tag)
 
-module _ (f g : List ℕ) (fits : directoryFits f ≡ true) (directory : Agree (12 + 16 * recordCount f) f g) where
+module _ (f g : List ℕ) (start : ℕ) (fits : directoryFits f start ≡ true) (directory : Agree (start + 12 + 16 * recordCount f start) f g) where
   -- ---- the directory
-  count-same : recordCount f ≡ recordCount g
+  count-same : recordCount f start ≡ recordCount g start
   unfolding recordCount
-  count-same = field16 directory 4 (omega arith)
+  count-same = field16 directory (start + 4) (omega arith)
 
-  fits-same : directoryFits f ≡ directoryFits g
+  fits-same : directoryFits f start ≡ directoryFits g start
   unfolding directoryFits
   fits-same =
       let count = count-same in
       let in-f = directory .in-first in
       let in-g = directory .in-second in
-      rw (le-leb 12 (length f) (omega arith), le-leb 12 (length g) (omega arith), field32 directory 0 (omega arith), le-leb (12 + 16 * recordCount f) (length f) in-f, le-leb (12 + 16 * recordCount g) (length g) (omega arith))
+      rw (le-leb (start + 12) (length f) (omega arith), le-leb (start + 12) (length g) (omega arith), field32 directory start (omega arith), le-leb (start + 12 + 16 * recordCount f start) (length f) in-f, le-leb (start + 12 + 16 * recordCount g start) (length g) (omega arith))
 
-  record-same : (tag : ℕ) → firstRecord f tag ≡ firstRecord g tag
+  record-same : (tag : ℕ) → firstRecord f start tag ≡ firstRecord g start tag
   unfolding firstRecord recordTag
   record-same tag =
       rw (← count-same)
-      (first-same (λ i. eqb (recordTag f i) tag) (λ i. eqb (recordTag g i) tag) (recordCount f)
-      (λ i l. ap (λ (t : ℕ). eqb t tag) (field32 directory (12 + 16 * i) (omega arith))))
+      (first-same (λ i. eqb (recordTag f start i) tag) (λ i. eqb (recordTag g start i) tag) (recordCount f start)
+      (λ i l. ap (λ (t : ℕ). eqb t tag) (field32 directory (start + 12 + 16 * i) (omega arith))))
 
-  table-same : (least i : ℕ) → i < recordCount f
-      → leb (recordOffset f i + recordLength f i) (length f) ≡ leb (recordOffset f i + recordLength f i) (length g)
-      → tableOfRecord f least i ≡ tableOfRecord g least i
+  table-same : (least i : ℕ) → i < recordCount f start
+      → leb (recordOffset f start i + recordLength f start i) (length f) ≡ leb (recordOffset f start i + recordLength f start i) (length g)
+      → tableOfRecord f start least i ≡ tableOfRecord g start least i
   unfolding tableOfRecord recordOffset recordLength
   table-same least i l e =
-      rw (e, field32 directory (24 + 16 * i) (omega arith), field32 directory (20 + 16 * i) (omega arith))
+      rw (e, field32 directory (start + 24 + 16 * i) (omega arith), field32 directory (start + 20 + 16 * i) (omega arith))
 
   -- a table is found at the same place, where it reaches past both files or past none
-  find-same : (tag least : ℕ) → (firstRecord f tag < recordCount f → leb (endOf f tag) (length f) ≡ leb (endOf f tag) (length g))
-      → findTable f tag least ≡ findTable g tag least
+  find-same : (tag least : ℕ) → (firstRecord f start tag < recordCount f start → leb (endOf f start tag) (length f) ≡ leb (endOf f start tag) (length g))
+      → findTable f start tag least ≡ findTable g start tag least
   unfolding findTable
   find-same tag least e =
-      rw (← fits-same, fits, ← count-same, ← record-same tag) (go (ltb (firstRecord f tag) (recordCount f)) refl)
+      rw (← fits-same, fits, ← count-same, ← record-same tag) (go (ltb (firstRecord f start tag) (recordCount f start)) refl)
     where
-      go : (b : Bool) → ltb (firstRecord f tag) (recordCount f) ≡ b
-          → cond b (tableOfRecord f least (firstRecord f tag)) Absent ≡ cond b (tableOfRecord g least (firstRecord f tag)) Absent
-      go true h = let l = ltb-true (firstRecord f tag) (recordCount f) h in table-same least (firstRecord f tag) l (e l)
+      go : (b : Bool) → ltb (firstRecord f start tag) (recordCount f start) ≡ b
+          → cond b (tableOfRecord f start least (firstRecord f start tag)) Absent ≡ cond b (tableOfRecord g start least (firstRecord f start tag)) Absent
+      go true h = let l = ltb-true (firstRecord f start tag) (recordCount f start) h in table-same least (firstRecord f start tag) l (e l)
       go false h = refl
 
   -- ---- the face: each of the five reaches past both files or past none, and its bytes are the same where it lies
-  module _ (ends : (tag least : ℕ) → Five tag least → firstRecord f tag < recordCount f → leb (endOf f tag) (length f) ≡ leb (endOf f tag) (length g))
-      (bytes : (tag least o n : ℕ) → Five tag least → findTable f tag least ≡ Found o n → take n (drop o f) ≡ take n (drop o g))
+  module _ (ends : (tag least : ℕ) → Five tag least → firstRecord f start tag < recordCount f start → leb (endOf f start tag) (length f) ≡ leb (endOf f start tag) (length g))
+      (bytes : (tag least o n : ℕ) → Five tag least → findTable f start tag least ≡ Found o n → take n (drop o f) ≡ take n (drop o g))
     where
-      data-same : (tag least : ℕ) → Five tag least → tableData f tag least ≡ tableData g tag least
+      data-same : (tag least : ℕ) → Five tag least → tableData f start tag least ≡ tableData g start tag least
       unfolding tableData partOf
-      data-same tag least t = rw (← find-same tag least (ends tag least t)) (go (findTable f tag least) refl)
+      data-same tag least t = rw (← find-same tag least (ends tag least t)) (go (findTable f start tag least) refl)
         where
-          go : (u : Table) → findTable f tag least ≡ u → partOf f u ≡ partOf g u
+          go : (u : Table) → findTable f start tag least ≡ u → partOf f u ≡ partOf g u
           go Absent e = refl
           go (Found o n) e = bytes tag least o n t e
 
-      index-same : charmapIndex f ≡ charmapIndex g
+      index-same : charmapIndex f start ≡ charmapIndex g start
       unfolding charmapIndex indexIn partOf
-      index-same = rw (← find-same 0x636D6170 4 (ends 0x636D6170 4 cmap)) (go (findTable f 0x636D6170 4) refl)
+      index-same = rw (← find-same 0x636D6170 4 (ends 0x636D6170 4 cmap)) (go (findTable f start 0x636D6170 4) refl)
         where
-          go : (u : Table) → findTable f 0x636D6170 4 ≡ u → indexIn f u ≡ indexIn g u
+          go : (u : Table) → findTable f start 0x636D6170 4 ≡ u → indexIn f u ≡ indexIn g u
           go Absent e = refl
           go (Found o n) e = ap (indexOf o) (bytes 0x636D6170 4 o n cmap e)
 
-      pub font-kept : fromFontRef f ≡ fromFontRef g
-      unfolding fromFontRef faceOf
+      pub font-kept : checkedAt f start ≡ checkedAt g start
+      unfolding checkedAt checkedBy faceOf
       font-kept =
-          let r = read-equal f g fits-same data-same in
+          let r = read-equal f start g start fits-same data-same in
           rw (r .refusal, r .attributes, r .axes, r .axis-count, index-same)
 
--- another byte at k, past the directory and outside the five tables
-pub byte-changed : (f : List ℕ) (k b : ℕ) → directoryFits f ≡ true → 12 + 16 * recordCount f ≤ k
-    → ((tag least o n : ℕ) → Five tag least → findTable f tag least ≡ Found o n → (k < o) ⊎ (o + n ≤ k))
-    → fromFontRef f ≡ fromFontRef (set f k b)
-byte-changed f k b fits past outside =
-    font-kept f (set f k b) fits
-    (record { in-first = records-inside f fits; in-second = rw length-set (records-inside f fits); same = sym (take-set-le (12 + 16 * recordCount f) f k b past) })
+-- another byte at k, past the directory and outside the five tables, in the font whose directory begins at `start`
+pub byte-changed : (f : List ℕ) (start k b : ℕ) → directoryFits f start ≡ true → start + 12 + 16 * recordCount f start ≤ k
+    → ((tag least o n : ℕ) → Five tag least → findTable f start tag least ≡ Found o n → (k < o) ⊎ (o + n ≤ k))
+    → checkedAt f start ≡ checkedAt (set f k b) start
+byte-changed f start k b fits past outside =
+    font-kept f (set f k b) start fits
+    (record { in-first = records-inside f start fits; in-second = rw length-set (records-inside f start fits); same = sym (take-set-le (start + 12 + 16 * recordCount f start) f k b past) })
     (λ tag least t l. rw length-set)
     (λ tag least o n t e. part o n (outside tag least o n t e))
   where
@@ -108,14 +108,14 @@ byte-changed f k b fits past outside =
         sym (ap (λ (i : ℕ). take n (drop o (set f i b))) at ∙ ap (take n) (drop-set-add o f (k - o) b) ∙ take-set-le n (drop o f) (k - o) b (omega arith))
 
 -- more bytes at the end, where none of the five is absent for reaching past the file
-pub appended : (f more : List ℕ) → directoryFits f ≡ true
-    → ((tag least : ℕ) → Five tag least → firstRecord f tag < recordCount f → endOf f tag ≤ length f)
-    → fromFontRef f ≡ fromFontRef (f ++ more)
-appended f more fits inside =
-    font-kept f (f ++ more) fits
-    (record { in-first = records-inside f fits; in-second = longer (records-inside f fits); same = sym (take-append-le (12 + 16 * recordCount f) f more (records-inside f fits)) })
-    (λ tag least t l. le-leb (endOf f tag) (length f) (inside tag least t l) ∙ sym (le-leb (endOf f tag) (length (f ++ more)) (longer (inside tag least t l))))
-    (λ tag least o n t e. part o n (within f tag least o n e .inside))
+pub appended : (f more : List ℕ) (start : ℕ) → directoryFits f start ≡ true
+    → ((tag least : ℕ) → Five tag least → firstRecord f start tag < recordCount f start → endOf f start tag ≤ length f)
+    → checkedAt f start ≡ checkedAt (f ++ more) start
+appended f more start fits inside =
+    font-kept f (f ++ more) start fits
+    (record { in-first = records-inside f start fits; in-second = longer (records-inside f start fits); same = sym (take-append-le (start + 12 + 16 * recordCount f start) f more (records-inside f start fits)) })
+    (λ tag least t l. le-leb (endOf f start tag) (length f) (inside tag least t l) ∙ sym (le-leb (endOf f start tag) (length (f ++ more)) (longer (inside tag least t l))))
+    (λ tag least o n t e. part o n (within f start tag least o n e .inside))
   where
     longer : {n : ℕ} → n ≤ length f → n ≤ length (f ++ more)
     longer l = rw length-append (omega arith)

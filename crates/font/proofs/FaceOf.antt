@@ -1,17 +1,18 @@
--- A font file's refusal, and the face of one that is not refused: its attributes and its axes.
+-- The refusal of a file's font, and the face of one that is not refused: its attributes and its axes.
 use Prim.Native.Nat.{ℕ, _≤_, _<_}
 use mathlib.Core.Path.{_≡_, refl, sym, ap, _∙_}
 use mathlib.Core.Bool.{Bool, true, false, cond}
 use mathlib.Core.List.{List}
 use native.Mathlib.Omega.{arith}
 use lib.Dec.{leb, ltb, eqb}
-use borrow.Author.Tests.{leb-true, lt-ltb, eq-eqb, ne-eqb}
+use borrow.Author.Tests.{leb-true, lt-ltb, ltb-true, eq-eqb, ne-eqb}
 use Rattle.font.specs.declared.font.AxisInfo.{AxisInfo}
 use Rattle.font.specs.declared.font.FontInfo.{FontInfo}
 use Rattle.font.specs.Tables.{directoryFits}
+use Rattle.font.specs.Collection.{headerFits, fontCount, fontStart}
 use Rattle.font.specs.Charmap.{charmapIndex}
 use Rattle.font.specs.Reading.{readAttributes}
-use Rattle.font.specs.Font.{fvarOf, axisCount, axisAt, noAxis, axesOf, hasIndex, faceOf, emptyFont, fontRefusal, fromFontRef, statesAxis}
+use Rattle.font.specs.Font.{fvarOf, axisCount, axisAt, noAxis, axesOf, hasIndex, faceOf, emptyFont, refusalAt, fontRefusal, checkedBy, fromFontRef, statesAxis}
 use Rattle.font.specs.Overrides.{axisOf, firstAxis}
 use Rattle.font.proofs.First.{first-same}
 use Rattle.font.proofs.Tabulated.{element}
@@ -24,10 +25,11 @@ pub data OneOf (n : ℕ) : Type 0 where
   directory : n ≡ 21 → OneOf n
   charmap : n ≡ 22 → OneOf n
   axes : n ≡ 23 → OneOf n
+  number : n ≡ 30 → OneOf n
 
-pub refusal-one-of : (font : List ℕ) → OneOf (fontRefusal font)
-unfolding fontRefusal
-refusal-one-of font = go (directoryFits font) (hasIndex (charmapIndex font)) (leb (axisCount (fvarOf font)) 16)
+at-one-of : (font : List ℕ) (start : ℕ) → OneOf (refusalAt font start)
+unfolding refusalAt
+at-one-of font start = go (directoryFits font start) (hasIndex (charmapIndex font start)) (leb (axisCount (fvarOf font start)) 16)
   where
     go : (a b c : Bool) → OneOf (cond a (cond b (cond c 0 23) 22) 21)
     go true true true = accepted refl
@@ -35,68 +37,125 @@ refusal-one-of font = go (directoryFits font) (hasIndex (charmapIndex font)) (le
     go true false c = charmap refl
     go false b c = directory refl
 
--- a font file that is not refused states at most 16 axes
-pub few-stated : (font : List ℕ) → fontRefusal font ≡ 0 → axisCount (fvarOf font) ≤ 16
-unfolding fontRefusal
-few-stated font = go (directoryFits font) (hasIndex (charmapIndex font)) (leb (axisCount (fvarOf font)) 16) refl
+not-30 : (font : List ℕ) (start : ℕ) → refusalAt font start ≡ 30 → ⊥
+unfolding refusalAt
+not-30 font start = go (directoryFits font start) (hasIndex (charmapIndex font start)) (leb (axisCount (fvarOf font start)) 16)
   where
-    go : (a b c : Bool) → leb (axisCount (fvarOf font)) 16 ≡ c → _≡_ {A = ℕ} (cond a (cond b (cond c 0 23) 22) 21) 0
-        → axisCount (fvarOf font) ≤ 16
-    go true true true e z = leb-true (axisCount (fvarOf font)) 16 e
+    go : (a b c : Bool) → _≡_ {A = ℕ} (cond a (cond b (cond c 0 23) 22) 21) 30 → ⊥
+    go true true true z = omega arith
+    go true true false z = omega arith
+    go true false c z = omega arith
+    go false b c z = omega arith
+
+pub refusal-one-of : (font : List ℕ) (n : ℕ) → OneOf (fontRefusal font n)
+unfolding fontRefusal
+refusal-one-of font n = go (headerFits font) (ltb n (fontCount font))
+  where
+    go : (a b : Bool) → OneOf (cond a (cond b (refusalAt font (fontStart font n)) 30) 21)
+    go true true = at-one-of font (fontStart font n)
+    go true false = number refl
+    go false b = directory refl
+
+-- a font of a number that the file has, where its header is there, is refused as the one at its start
+pub refused-at : (font : List ℕ) (n : ℕ) → headerFits font ≡ true → n < fontCount font → fontRefusal font n ≡ refusalAt font (fontStart font n)
+unfolding fontRefusal
+refused-at font n h l = rw (h, lt-ltb n (fontCount font) l)
+
+-- and never by 30
+pub below-not-30 : (font : List ℕ) (n : ℕ) → n < fontCount font → fontRefusal font n ≡ 30 → ⊥
+unfolding fontRefusal
+below-not-30 font n l z = go (headerFits font) (at-one-of font (fontStart font n)) (rw (lt-ltb n (fontCount font) l) at z)
+  where
+    go : (a : Bool) → OneOf (refusalAt font (fontStart font n)) → _≡_ {A = ℕ} (cond a (refusalAt font (fontStart font n)) 21) 30 → ⊥
+    go true (accepted e) z = omega arith
+    go true (directory e) z = omega arith
+    go true (charmap e) z = omega arith
+    go true (axes e) z = omega arith
+    go true (number e) z = not-30 font (fontStart font n) e
+    go false o z = omega arith
+
+-- one that is not refused has its header, and its number is below the count
+pub record Taken (font : List ℕ) (n : ℕ) : Type 0 where
+  pub header : headerFits font ≡ true
+  pub below : n < fontCount font
+  pub at-start : refusalAt font (fontStart font n) ≡ 0
+
+pub taken : (font : List ℕ) (n : ℕ) → fontRefusal font n ≡ 0 → Taken font n
+unfolding fontRefusal
+taken font n = go (headerFits font) (ltb n (fontCount font)) refl refl
+  where
+    go : (a b : Bool) → headerFits font ≡ a → ltb n (fontCount font) ≡ b → _≡_ {A = ℕ} (cond a (cond b (refusalAt font (fontStart font n)) 30) 21) 0 → Taken font n
+    go true true e h z = record { header = e; below = ltb-true n (fontCount font) h; at-start = z }
+    go true false e h z = absurd (omega arith)
+    go false b e h z = absurd (omega arith)
+
+few-at : (font : List ℕ) (start : ℕ) → refusalAt font start ≡ 0 → axisCount (fvarOf font start) ≤ 16
+unfolding refusalAt
+few-at font start = go (directoryFits font start) (hasIndex (charmapIndex font start)) (leb (axisCount (fvarOf font start)) 16) refl
+  where
+    go : (a b c : Bool) → leb (axisCount (fvarOf font start)) 16 ≡ c → _≡_ {A = ℕ} (cond a (cond b (cond c 0 23) 22) 21) 0
+        → axisCount (fvarOf font start) ≤ 16
+    go true true true e z = leb-true (axisCount (fvarOf font start)) 16 e
     go true true false e z = absurd (omega arith)
     go true false c e z = absurd (omega arith)
     go false b c e z = absurd (omega arith)
 
+-- a font that is not refused states at most 16 axes
+pub few-stated : (font : List ℕ) (n : ℕ) → fontRefusal font n ≡ 0 → axisCount (fvarOf font (fontStart font n)) ≤ 16
+few-stated font n z = few-at font (fontStart font n) (taken font n z .at-start)
+
 -- ---- the face
 
-accepted-face : (font : List ℕ) → fontRefusal font ≡ 0 → fromFontRef font .font ≡ faceOf font
-unfolding fromFontRef
-accepted-face font z = simp (eq-eqb (fontRefusal font) 0 z)
+pub accepted-face : (font : List ℕ) (n : ℕ) → fontRefusal font n ≡ 0 → fromFontRef font n .font ≡ faceOf font (fontStart font n)
+unfolding fromFontRef checkedBy
+accepted-face font n z = simp (eq-eqb (fontRefusal font n) 0 z)
 
-refused-face : (font : List ℕ) → (fontRefusal font ≡ 0 → ⊥) → fromFontRef font .font ≡ emptyFont
-unfolding fromFontRef
-refused-face font n = simp (ne-eqb (fontRefusal font) 0 n)
+refused-face : (font : List ℕ) (n : ℕ) → (fontRefusal font n ≡ 0 → ⊥) → fromFontRef font n .font ≡ emptyFont
+unfolding fromFontRef checkedBy
+refused-face font n h = simp (ne-eqb (fontRefusal font n) 0 h)
 
--- what holds of the empty face and of the face of each font file that is not refused holds of every face that is read
-pub each-face : (P : FontInfo → Type 0) (font : List ℕ) → P emptyFont → (fontRefusal font ≡ 0 → P (faceOf font))
-    → P (fromFontRef font .font)
-each-face P font e h = go (refusal-one-of font)
+-- what holds of the empty face and of the face of each font that is not refused holds of every face that is read
+pub each-face : (P : FontInfo → Type 0) (font : List ℕ) (n : ℕ) → P emptyFont → (fontRefusal font n ≡ 0 → P (faceOf font (fontStart font n)))
+    → P (fromFontRef font n .font)
+each-face P font n e h = go (refusal-one-of font n)
   where
-    refused : (fontRefusal font ≡ 0 → ⊥) → P (fromFontRef font .font)
-    refused n = rw (refused-face font n) e
+    refused : (fontRefusal font n ≡ 0 → ⊥) → P (fromFontRef font n .font)
+    refused r = rw (refused-face font n r) e
 
-    go : OneOf (fontRefusal font) → P (fromFontRef font .font)
-    go (accepted z) = rw (accepted-face font z) (h z)
-    go (directory z) = refused (λ n. omega arith)
-    go (charmap z) = refused (λ n. omega arith)
-    go (axes z) = refused (λ n. omega arith)
+    go : OneOf (fontRefusal font n) → P (fromFontRef font n .font)
+    go (accepted z) = rw (accepted-face font n z) (h z)
+    go (directory z) = refused (λ r. omega arith)
+    go (charmap z) = refused (λ r. omega arith)
+    go (axes z) = refused (λ r. omega arith)
+    go (number z) = refused (λ r. omega arith)
 
-pub attributes-of-face : (font : List ℕ) → fontRefusal font ≡ 0 → readAttributes font ≡ fromFontRef font .font .attributes
+pub attributes-of-face : (font : List ℕ) (n : ℕ) → fontRefusal font n ≡ 0 → readAttributes font (fontStart font n) ≡ fromFontRef font n .font .attributes
 unfolding faceOf
-attributes-of-face font z = ap (λ (f : FontInfo). f .attributes) (sym (accepted-face font z))
+attributes-of-face font n z = ap (λ (f : FontInfo). f .attributes) (sym (accepted-face font n z))
 
 -- ---- its axes
 
--- a font file gives at most 16 axes
-pub few-axes : (font : List ℕ) → fromFontRef font .font .«axis_count» ≤ 16
+-- a font gives at most 16 axes
+pub few-axes : (font : List ℕ) (n : ℕ) → fromFontRef font n .font .«axis_count» ≤ 16
 unfolding emptyFont faceOf
-few-axes font = each-face (λ f. f .«axis_count» ≤ 16) font (omega arith) (few-stated font)
+few-axes font n = each-face (λ f. f .«axis_count» ≤ 16) font n (omega arith) (few-stated font n)
 
 pub axis-there : (fvar : List ℕ) (n i : ℕ) → i < n → n ≤ 16 → axisOf (axesOf fvar n) i ≡ axisAt fvar i
 unfolding axisOf axesOf
 axis-there fvar n i l few = element (λ j. cond (ltb j n) (axisAt fvar j) noAxis) 16 i _ (omega arith) ∙ rw (lt-ltb i n l)
 
-of-face : (font : List ℕ) (tag : ℕ) → axisCount (fvarOf font) ≤ 16
-    → statesAxis font tag ≡ ltb (firstAxis (faceOf font .axes) (faceOf font .«axis_count») tag) (faceOf font .«axis_count»)
+of-face : (font : List ℕ) (start tag : ℕ) → axisCount (fvarOf font start) ≤ 16
+    → statesAxis font start tag ≡ ltb (firstAxis (faceOf font start .axes) (faceOf font start .«axis_count») tag) (faceOf font start .«axis_count»)
 unfolding statesAxis firstAxis faceOf
-of-face font tag few =
-    ap (λ (k : ℕ). ltb k (axisCount (fvarOf font)))
-    (first-same (λ i. eqb (axisAt (fvarOf font) i .tag) tag) (λ i. eqb (axisOf (axesOf (fvarOf font) (axisCount (fvarOf font))) i .tag) tag)
-    (axisCount (fvarOf font)) (λ i l. ap (λ (a : AxisInfo). eqb (a .tag) tag) (sym (axis-there (fvarOf font) (axisCount (fvarOf font)) i l few))))
+of-face font start tag few =
+    ap (λ (k : ℕ). ltb k (axisCount (fvarOf font start)))
+    (first-same (λ i. eqb (axisAt (fvarOf font start) i .tag) tag) (λ i. eqb (axisOf (axesOf (fvarOf font start) (axisCount (fvarOf font start))) i .tag) tag)
+    (axisCount (fvarOf font start)) (λ i l. ap (λ (a : AxisInfo). eqb (a .tag) tag) (sym (axis-there (fvarOf font start) (axisCount (fvarOf font start)) i l few))))
 
--- the axes that a font file states are those of its face
-pub stated : (font : List ℕ) (tag : ℕ) → fontRefusal font ≡ 0
-    → statesAxis font tag ≡ ltb (firstAxis (fromFontRef font .font .axes) (fromFontRef font .font .«axis_count») tag) (fromFontRef font .font .«axis_count»)
-stated font tag z =
-    of-face font tag (few-stated font z)
-    ∙ ap (λ (f : FontInfo). ltb (firstAxis (f .axes) (f .«axis_count») tag) (f .«axis_count»)) (sym (accepted-face font z))
+-- the axes that a font states are those of its face
+pub stated : (font : List ℕ) (n tag : ℕ) → fontRefusal font n ≡ 0
+    → statesAxis font (fontStart font n) tag
+    ≡ ltb (firstAxis (fromFontRef font n .font .axes) (fromFontRef font n .font .«axis_count») tag) (fromFontRef font n .font .«axis_count»)
+stated font n tag z =
+    of-face font (fontStart font n) tag (few-stated font n z)
+    ∙ ap (λ (f : FontInfo). ltb (firstAxis (f .axes) (f .«axis_count») tag) (f .«axis_count»)) (sym (accepted-face font n z))

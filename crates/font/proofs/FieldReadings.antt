@@ -33,21 +33,30 @@ abbrev pub bytesAt : List ℕ → ℕ → ℕ → List ℕ
 bytesAt font offset len = take len (drop offset font)
 
 module _ (r16 r32 : Fields) where
+  -- ---- the fonts of a file, whose header is there
+  unfoldable pub countBy : List ℕ → ℕ
+  countBy font = cond (eqb (r32 font 0) 0x74746366) (r32 font 8) 1
+
+  unfoldable pub startBy : List ℕ → ℕ → ℕ
+  startBy font number =
+      cond (eqb (r32 font 0) 0x74746366) (cond (leb (12 + 4 * countBy font) (length font)) (r32 font (12 + 4 * number)) (length font)) 0
+
   -- ---- the directory
-  unfoldable pub fitsBy : List ℕ → Bool
-  fitsBy font = leb 12 (length font) && (startsAsFont (r32 font 0) && leb (12 + 16 * r16 font 4) (length font))
+  unfoldable pub fitsBy : List ℕ → ℕ → Bool
+  fitsBy font start = leb (start + 12) (length font) && (startsAsFont (r32 font start) && leb (start + 12 + 16 * r16 font (start + 4)) (length font))
 
-  unfoldable pub recordBy : List ℕ → ℕ → ℕ
-  recordBy font tag = first (λ i. eqb (r32 font (12 + 16 * i)) tag) (r16 font 4)
+  unfoldable pub recordBy : List ℕ → ℕ → ℕ → ℕ
+  recordBy font start tag = first (λ i. eqb (r32 font (start + 12 + 16 * i)) tag) (r16 font (start + 4))
 
-  unfoldable pub tableBy : List ℕ → ℕ → ℕ → Table
-  tableBy font least i =
-      cond (leb least (r32 font (24 + 16 * i)) && leb (r32 font (20 + 16 * i) + r32 font (24 + 16 * i)) (length font))
-      (Found (r32 font (20 + 16 * i)) (r32 font (24 + 16 * i)))
+  unfoldable pub tableBy : List ℕ → ℕ → ℕ → ℕ → Table
+  tableBy font start least i =
+      cond (leb least (r32 font (start + 24 + 16 * i)) && leb (r32 font (start + 20 + 16 * i) + r32 font (start + 24 + 16 * i)) (length font))
+      (Found (r32 font (start + 20 + 16 * i)) (r32 font (start + 24 + 16 * i)))
       Absent
 
-  unfoldable pub findBy : List ℕ → ℕ → ℕ → Table
-  findBy font tag least = cond (fitsBy font && ltb (recordBy font tag) (r16 font 4)) (tableBy font least (recordBy font tag)) Absent
+  unfoldable pub findBy : List ℕ → ℕ → ℕ → ℕ → Table
+  findBy font start tag least =
+      cond (fitsBy font start && ltb (recordBy font start tag) (r16 font (start + 4))) (tableBy font start least (recordBy font start tag)) Absent
 
   -- ---- attributes
   unfoldable pub angleBy : List ℕ → Table → Angle
@@ -70,8 +79,8 @@ module _ (r16 r32 : Fields) where
   statedBy font Absent post (Found offset len) = headBy (bytesAt font offset len)
   statedBy font Absent post Absent = defaultAttributes
 
-  unfoldable pub attributesBy : List ℕ → Attributes
-  attributesBy font = statedBy font (findBy font 0x4F532F32 78) (findBy font 0x706F7374 32) (findBy font 0x68656164 54)
+  unfoldable pub attributesBy : List ℕ → ℕ → Attributes
+  attributesBy font start = statedBy font (findBy font start 0x4F532F32 78) (findBy font start 0x706F7374 32) (findBy font start 0x68656164 54)
 
   -- ---- axes
   unfoldable pub countInBy : List ℕ → ℕ
@@ -126,22 +135,27 @@ module _ (r16 r32 : Fields) where
   indexBy font (Found offset len) = indexInBy offset (bytesAt font offset len)
 
   -- ---- the refusal and the face
-  unfoldable pub refusalBy : List ℕ → ℕ
-  refusalBy font =
-      cond (fitsBy font)
-      (cond (hasIndex (indexBy font (findBy font 0x636D6170 4)))
-      (cond (leb (axisCountBy font (findBy font 0x66766172 16)) 16) 0 23)
+  unfoldable pub refusalAtBy : List ℕ → ℕ → ℕ
+  refusalAtBy font start =
+      cond (fitsBy font start)
+      (cond (hasIndex (indexBy font (findBy font start 0x636D6170 4)))
+      (cond (leb (axisCountBy font (findBy font start 0x66766172 16)) 16) 0 23)
       22)
       21
 
-  unfoldable pub faceBy : List ℕ → FontInfo
-  faceBy font =
+  unfoldable pub refusalBy : List ℕ → ℕ → ℕ
+  refusalBy font number =
+      cond (leb 12 (length font)) (cond (ltb number (countBy font)) (refusalAtBy font (startBy font number)) 30) 21
+
+  unfoldable pub faceBy : List ℕ → ℕ → FontInfo
+  faceBy font start =
       record {
-        attributes = attributesBy font;
-        axes = axesBy font (findBy font 0x66766172 16);
-        «axis_count» = axisCountBy font (findBy font 0x66766172 16);
-        «charmap_index» = indexOr noIndex (indexBy font (findBy font 0x636D6170 4));
+        attributes = attributesBy font start;
+        axes = axesBy font (findBy font start 0x66766172 16);
+        «axis_count» = axisCountBy font (findBy font start 0x66766172 16);
+        «charmap_index» = indexOr noIndex (indexBy font (findBy font start 0x636D6170 4));
       }
 
-  unfoldable pub fontBy : List ℕ → Checked
-  fontBy font = record { refusal = refusalBy font; font = cond (eqb (refusalBy font) 0) (faceBy font) emptyFont }
+  unfoldable pub fontBy : List ℕ → ℕ → Checked
+  fontBy font number =
+      record { refusal = refusalBy font number; font = cond (eqb (refusalBy font number) 0) (faceBy font (startBy font number)) emptyFont }

@@ -11,6 +11,7 @@ use Rattle.font.specs.declared.tables.Table.the-variants.{Absent, Found}
 use Rattle.font.specs.declared.charmap.CharmapIndex.{CharmapIndex}
 use Rattle.font.specs.declared.charmap.Charmap.the-variants.{Missing, Index}
 use Rattle.font.specs.Tables.{findTable, partOf}
+use Rattle.font.specs.Collection.{fontStart}
 use Rattle.font.specs.Charmap.{subtableOffset, someQualifies, bestClass, bestRecord, indexOf, indexIn, charmapIndex}
 use Rattle.font.specs.declared.charmap.Charmap.{Charmap}
 use Rattle.font.specs.Font.{emptyFont, faceOf, indexOr, noIndex, fromFontRef}
@@ -32,23 +33,23 @@ in-table offset cmap i = go (someQualifies cmap) refl
     go false e h = absurd (let z : _≡_ {A = ℕ} 0 1 = cc in omega arith)
 
 -- the index of a font is that of a subtable in it
-index-inside : (font : List ℕ) (i : CharmapIndex) → charmapIndex font ≡ Index i → i .«subtable_offset» + 2 ≤ length font
+index-inside : (font : List ℕ) (start : ℕ) (i : CharmapIndex) → charmapIndex font start ≡ Index i → i .«subtable_offset» + 2 ≤ length font
 unfolding charmapIndex indexIn partOf
-index-inside font i = go (findTable font 0x636D6170 4) refl
+index-inside font start i = go (findTable font start 0x636D6170 4) refl
   where
-    go : (t : Table) → findTable font 0x636D6170 4 ≡ t → indexIn font t ≡ Index i → i .«subtable_offset» + 2 ≤ length font
+    go : (t : Table) → findTable font start 0x636D6170 4 ≡ t → indexIn font t ≡ Index i → i .«subtable_offset» + 2 ≤ length font
     go Absent e h = absurd (let z : _≡_ {A = ℕ} 0 1 = cc in omega arith)
     go (Found o n) e h =
-        let w = within font 0x636D6170 4 o n e in
+        let w = within font start 0x636D6170 4 o n e in
         let long : length (take n (drop o font)) ≡ n = simp (length-take, length-drop) (omega (arith, w .inside)) in
         omega (arith, in-table o (take n (drop o font)) i h, long, w .inside)
 
 -- whether a font is refused or not, the offset of its charmap index is at most the file's length
-pub offset-inside : (font : List ℕ) → fromFontRef font .font .«charmap_index» .«subtable_offset» ≤ length font
+pub offset-inside : (font : List ℕ) (number : ℕ) → fromFontRef font number .font .«charmap_index» .«subtable_offset» ≤ length font
 unfolding emptyFont faceOf indexOr noIndex
-offset-inside font =
-    each-face (λ f. f .«charmap_index» .«subtable_offset» ≤ length font) font (omega arith) (λ z. go (charmapIndex font) refl)
+offset-inside font number =
+    each-face (λ f. f .«charmap_index» .«subtable_offset» ≤ length font) font number (omega arith) (λ z. go (charmapIndex font (fontStart font number)) refl)
   where
-    go : (m : Charmap) → charmapIndex font ≡ m → indexOr noIndex m .«subtable_offset» ≤ length font
+    go : (m : Charmap) → charmapIndex font (fontStart font number) ≡ m → indexOr noIndex m .«subtable_offset» ≤ length font
     go Missing e = omega arith
-    go (Index i) e = omega (arith, index-inside font i e)
+    go (Index i) e = omega (arith, index-inside font (fontStart font number) i e)

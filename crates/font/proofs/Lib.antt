@@ -22,6 +22,7 @@ pub mod First
 pub mod Least
 pub mod Tabulated
 pub mod Lookup
+pub mod Collections
 pub mod Records
 pub mod Inside
 pub mod Classes
@@ -32,6 +33,7 @@ pub mod AnyReading
 pub mod LookedAt
 pub mod CutTables
 pub mod Elsewhere
+pub mod SameFonts
 -- Section 3: overrides.
 pub mod Defaults
 pub mod Refusals

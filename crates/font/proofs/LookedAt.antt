@@ -19,9 +19,10 @@ use Rattle.font.specs.declared.tables.Table.the-variants.{Absent, Found}
 use Rattle.font.specs.First.{first, some}
 use Rattle.font.specs.Attributes.{defaultAttributes}
 use Rattle.font.specs.Tables.{u16At, u32At, directoryFits, findTable, partOf, tableData}
+use Rattle.font.specs.Collection.{fontStart}
 use Rattle.font.specs.Charmap.{subtableOffset, pairClass, qualifies, recordClass, someQualifies, bestClass, bestRecord, indexOf, indexIn, charmapIndex}
 use Rattle.font.specs.Reading.{present, postAngle, os2Style, fromOs2Post, fromHead, readAttributes}
-use Rattle.font.specs.Font.{fvarOf, axisCount, axisAt, noAxis, axesOf, hasIndex, indexOr, noIndex, fontRefusal, faceOf, emptyFont, fromFontRef, statesAxis}
+use Rattle.font.specs.Font.{fvarOf, axisCount, axisAt, noAxis, axesOf, hasIndex, indexOr, noIndex, refusalAt, fontRefusal, faceOf, emptyFont, checkedBy, fromFontRef, statesAxis}
 use Rattle.font.specs.LookedAt.{Agree, Alike, absent, found, AxesAlike, no-axes, with-axes, Keeps, RecordsAlike, SameTables, OfRecord, SameIndex, missing, of-record, SameReading, subtableAt}
 use Rattle.font.proofs.First.{first-same}
 use Rattle.font.proofs.Least.{Kept, least-same, first-least-same}
@@ -157,100 +158,106 @@ module _ {c d : List ℕ} (h : RecordsAlike c d) where
       first-least-same 4 (recordClass c) (u16At c 2) (recordClass d) (u16At d 2) (keeps-class c d (h .forth)) (keeps-class d c (h .back))
       (best-low c q)
 
-no-index : (font : List ℕ) → someQualifies (tableData font 0x636D6170 4) ≡ false → charmapIndex font ≡ Missing
+no-index : (font : List ℕ) (start : ℕ) → someQualifies (tableData font start 0x636D6170 4) ≡ false → charmapIndex font start ≡ Missing
 unfolding hasIndex
-no-index font e = go (charmapIndex font) (font-has font ∙ e)
+no-index font start e = go (charmapIndex font start) (font-has font start ∙ e)
   where
     go : (m : Charmap) → hasIndex m ≡ false → m ≡ Missing
     go Missing h = refl
     go (Index i) h = absurd (let z : _≡_ {A = ℕ} 0 1 = cc in omega arith)
 
-index-of-best : (font : List ℕ) → someQualifies (tableData font 0x636D6170 4) ≡ true
-    → OfRecord font (bestRecord (tableData font 0x636D6170 4)) (eqb (bestClass (tableData font 0x636D6170 4)) 2) (eqb (bestClass (tableData font 0x636D6170 4)) 3)
+index-of-best : (font : List ℕ) (start : ℕ) → someQualifies (tableData font start 0x636D6170 4) ≡ true
+    → OfRecord font start (bestRecord (tableData font start 0x636D6170 4)) (eqb (bestClass (tableData font start 0x636D6170 4)) 2) (eqb (bestClass (tableData font start 0x636D6170 4)) 3)
 unfolding charmapIndex indexIn indexOf tableData partOf someQualifies some u16At
-index-of-best font = go (findTable font 0x636D6170 4) refl
+index-of-best font start = go (findTable font start 0x636D6170 4) refl
   where
-    go : (t : Table) → findTable font 0x636D6170 4 ≡ t → someQualifies (partOf font t) ≡ true
-        → OfRecord font (bestRecord (tableData font 0x636D6170 4)) (eqb (bestClass (tableData font 0x636D6170 4)) 2) (eqb (bestClass (tableData font 0x636D6170 4)) 3)
+    go : (t : Table) → findTable font start 0x636D6170 4 ≡ t → someQualifies (partOf font t) ≡ true
+        → OfRecord font start (bestRecord (tableData font start 0x636D6170 4)) (eqb (bestClass (tableData font start 0x636D6170 4)) 2) (eqb (bestClass (tableData font start 0x636D6170 4)) 3)
     go Absent e q = absurd (let z : _≡_ {A = ℕ} 0 1 = cc in omega arith)
     go (Found offset len) e q = record { offset = offset; len = len; lies = e; stated = rw e (best-stated (partOf font (Found offset len)) q); qualified = rw e (best-qualified (partOf font (Found offset len)) q); index = rw (e, q) }
 
-pub index-same : (f g : List ℕ) → RecordsAlike (tableData f 0x636D6170 4) (tableData g 0x636D6170 4) → SameIndex f g
-index-same f g h = go (someQualifies (tableData f 0x636D6170 4)) refl
+pub index-same : (f : List ℕ) (a : ℕ) (g : List ℕ) (b : ℕ) → RecordsAlike (tableData f a 0x636D6170 4) (tableData g b 0x636D6170 4) → SameIndex f a g b
+index-same f a g b h = go (someQualifies (tableData f a 0x636D6170 4)) refl
   where
-    go : (b : Bool) → someQualifies (tableData f 0x636D6170 4) ≡ b → SameIndex f g
-    go false e = missing (no-index f e) (no-index g (sym (some-qualifies-same h) ∙ e))
+    go : (z : Bool) → someQualifies (tableData f a 0x636D6170 4) ≡ z → SameIndex f a g b
+    go false e = missing (no-index f a e) (no-index g b (sym (some-qualifies-same h) ∙ e))
     go true e =
-        of-record _ _ _ (index-of-best f e)
-        (rw (best-record-same h e, best-class-same h) (index-of-best g (sym (some-qualifies-same h) ∙ e)))
+        of-record _ _ _ (index-of-best f a e)
+        (rw (best-record-same h e, best-class-same h) (index-of-best g b (sym (some-qualifies-same h) ∙ e)))
 
 -- ---- the file
 
-pub read-alike : (f g : List ℕ) → directoryFits f ≡ directoryFits g → SameTables (tableData f) (tableData g) → SameReading f g
-unfolding readAttributes statedIn fvarOf statesAxis fontRefusal
-read-alike f g fits h =
+pub read-alike : (f : List ℕ) (a : ℕ) (g : List ℕ) (b : ℕ) → directoryFits f a ≡ directoryFits g b → SameTables (tableData f a) (tableData g b) → SameReading f a g b
+unfolding readAttributes statedIn fvarOf statesAxis refusalAt
+read-alike f a g b fits h =
     record {
       attributes = stated-same (h .os2) (h .post) (h .head);
       axis-count = count-same (h .fvar);
       axes = axes-same (h .fvar);
       states = λ tag. axis-stated-same tag (h .fvar);
-      refusal = rw (fits, font-has f, font-has g, some-qualifies-same (h .cmap), count-same (h .fvar));
-      index = index-same f g (h .cmap);
+      refusal = rw (fits, font-has f a, font-has g b, some-qualifies-same (h .cmap), count-same (h .fvar));
+      index = index-same f a g b (h .cmap);
     }
 
 -- ---- where the subtable lies
 
--- a and b are the indices of f and g, whose `cmap` tables lie at o and p
-module _ (f g : List ℕ) (same-index : SameIndex f g) (a b : CharmapIndex) (at-a : charmapIndex f ≡ Index a) (at-b : charmapIndex g ≡ Index b)
-    (o n p m : ℕ) (lies-f : findTable f 0x636D6170 4 ≡ Found o n) (lies-g : findTable g 0x636D6170 4 ≡ Found p m)
+-- c and d are the indices of the two fonts, whose `cmap` tables lie at o and p
+module _ (f : List ℕ) (a : ℕ) (g : List ℕ) (b : ℕ) (same-index : SameIndex f a g b) (c d : CharmapIndex) (at-c : charmapIndex f a ≡ Index c) (at-d : charmapIndex g b ≡ Index d)
+    (o n p m : ℕ) (lies-f : findTable f a 0x636D6170 4 ≡ Found o n) (lies-g : findTable g b 0x636D6170 4 ≡ Found p m)
   where
     -- it is that of one record in both
-    one-record : (i : ℕ) × (i < u16At (tableData g 0x636D6170 4) 2) × (qualifies (tableData g 0x636D6170 4) i ≡ true)
-        × (a .«subtable_offset» ≡ o + subtableOffset (tableData f 0x636D6170 4) i)
-        × (b .«subtable_offset» ≡ p + subtableOffset (tableData g 0x636D6170 4) i)
+    one-record : (i : ℕ) × (i < u16At (tableData g b 0x636D6170 4) 2) × (qualifies (tableData g b 0x636D6170 4) i ≡ true)
+        × (c .«subtable_offset» ≡ o + subtableOffset (tableData f a 0x636D6170 4) i)
+        × (d .«subtable_offset» ≡ p + subtableOffset (tableData g b 0x636D6170 4) i)
     one-record = go same-index
       where
-        go : SameIndex f g → (i : ℕ) × (i < u16At (tableData g 0x636D6170 4) 2) × (qualifies (tableData g 0x636D6170 4) i ≡ true)
-            × (a .«subtable_offset» ≡ o + subtableOffset (tableData f 0x636D6170 4) i)
-            × (b .«subtable_offset» ≡ p + subtableOffset (tableData g 0x636D6170 4) i)
+        go : SameIndex f a g b → (i : ℕ) × (i < u16At (tableData g b 0x636D6170 4) 2) × (qualifies (tableData g b 0x636D6170 4) i ≡ true)
+            × (c .«subtable_offset» ≡ o + subtableOffset (tableData f a 0x636D6170 4) i)
+            × (d .«subtable_offset» ≡ p + subtableOffset (tableData g b 0x636D6170 4) i)
         go (missing e h) = absurd (let z : _≡_ {A = ℕ} 0 1 = cc in omega arith)
         go (of-record i symbol roman x y) = (i, y .stated, y .qualified, cc (x .index, x .lies), cc (y .index, y .lies))
 
     -- with the same bytes of `cmap` it is moved as the table is
-    pub moved : tableData f 0x636D6170 4 ≡ tableData g 0x636D6170 4 → b .«subtable_offset» + o ≡ a .«subtable_offset» + p
+    pub moved : tableData f a 0x636D6170 4 ≡ tableData g b 0x636D6170 4 → d .«subtable_offset» + o ≡ c .«subtable_offset» + p
     moved e =
         let w = one-record in
-        omega (arith, ap (λ (c : List ℕ). subtableOffset c (w .0)) e, w .3, w .4)
+        omega (arith, ap (λ (t : List ℕ). subtableOffset t (w .0)) e, w .3, w .4)
 
     -- where `back` takes the offset of each qualifying record of g to that of the same record of f, it takes g's index to f's
     pub mapped-back : (back : ℕ → ℕ)
-        → ((i : ℕ) → i < u16At (tableData g 0x636D6170 4) 2 → qualifies (tableData g 0x636D6170 4) i ≡ true
-        → back (subtableOffset (tableData g 0x636D6170 4) i) ≡ subtableOffset (tableData f 0x636D6170 4) i)
-        → (j : ℕ) → b .«subtable_offset» ≡ p + j → a .«subtable_offset» ≡ o + back j
+        → ((i : ℕ) → i < u16At (tableData g b 0x636D6170 4) 2 → qualifies (tableData g b 0x636D6170 4) i ≡ true
+        → back (subtableOffset (tableData g b 0x636D6170 4) i) ≡ subtableOffset (tableData f a 0x636D6170 4) i)
+        → (j : ℕ) → d .«subtable_offset» ≡ p + j → c .«subtable_offset» ≡ o + back j
     mapped-back back h j e =
         let w = one-record in
-        let same : j ≡ subtableOffset (tableData g 0x636D6170 4) (w .0) = omega (arith, w .4) in
+        let same : j ≡ subtableOffset (tableData g b 0x636D6170 4) (w .0) = omega (arith, w .4) in
         omega (arith, w .3, ap back same, h (w .0) (w .1) (w .2))
 
 -- ---- the face
 
 -- but for where the subtable lies the faces are one
-pub face-same : (f g : List ℕ) → SameReading f g
-    → fromFontRef f .font ≡ subtableAt (fromFontRef f .font .«charmap_index» .«subtable_offset») (fromFontRef g .font)
-unfolding fromFontRef faceOf subtableAt emptyFont indexOr noIndex
-face-same f g h = rw (h .refusal) (go (eqb (fontRefusal g) 0))
+at-same : (f : List ℕ) (a : ℕ) (g : List ℕ) (b : ℕ) → SameReading f a g b → (r : ℕ)
+    → checkedBy r f a .font ≡ subtableAt (checkedBy r f a .font .«charmap_index» .«subtable_offset») (checkedBy r g b .font)
+unfolding checkedBy faceOf subtableAt emptyFont indexOr noIndex
+at-same f a g b h r = go (eqb r 0)
   where
-    at-index : SameIndex f g
-        → indexOr noIndex (charmapIndex f)
+    at-index : SameIndex f a g b
+        → indexOr noIndex (charmapIndex f a)
         ≡ record {
-          «subtable_offset» = indexOr noIndex (charmapIndex f) .«subtable_offset»;
-          «is_symbol» = indexOr noIndex (charmapIndex g) .«is_symbol»;
-          «is_mac_roman» = indexOr noIndex (charmapIndex g) .«is_mac_roman»;
+          «subtable_offset» = indexOr noIndex (charmapIndex f a) .«subtable_offset»;
+          «is_symbol» = indexOr noIndex (charmapIndex g b) .«is_symbol»;
+          «is_mac_roman» = indexOr noIndex (charmapIndex g b) .«is_mac_roman»;
         }
     at-index (missing e i) = rw (e, i)
     at-index (of-record i symbol roman x y) = rw (x .index, y .index)
 
-    go : (b : Bool)
-        → cond b (faceOf f) emptyFont ≡ subtableAt (cond b (faceOf f) emptyFont .«charmap_index» .«subtable_offset») (cond b (faceOf g) emptyFont)
+    go : (z : Bool)
+        → cond z (faceOf f a) emptyFont ≡ subtableAt (cond z (faceOf f a) emptyFont .«charmap_index» .«subtable_offset») (cond z (faceOf g b) emptyFont)
     go true = rw (h .attributes, h .axes, h .axis-count, at-index (h .index))
     go false = refl
+
+-- so are those of the fonts m of f and n of g, where the two are refused alike
+pub face-same : (f : List ℕ) (m : ℕ) (g : List ℕ) (n : ℕ) → fontRefusal f m ≡ fontRefusal g n → SameReading f (fontStart f m) g (fontStart g n)
+    → fromFontRef f m .font ≡ subtableAt (fromFontRef f m .font .«charmap_index» .«subtable_offset») (fromFontRef g n .font)
+unfolding fromFontRef
+face-same f m g n e h = rw e (at-same f (fontStart f m) g (fontStart g n) h (fontRefusal g n))

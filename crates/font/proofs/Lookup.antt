@@ -1,5 +1,5 @@
 -- Laws of table lookup: a found table lies in the file and has the bytes that were asked for, and its part of the file is handed out.
-use Prim.Native.Nat.{ℕ, _+_, _*_, _-_, _≤_}
+use Prim.Native.Nat.{ℕ, _+_, _*_, _-_, _≤_, _<_}
 use mathlib.Core.Path.{_≡_, refl, _∙_}
 use mathlib.Core.Bool.{Bool, true, false, _&&_, cond}
 use mathlib.Core.List.{List, []}
@@ -8,19 +8,29 @@ use native.Mathlib.Omega.{arith}
 use native.Mathlib.Nat.{add-sub-cancel-left}
 use lib.ListN.{length, take, drop, length-take, length-drop}
 use lib.Dec.{leb, ltb}
-use borrow.Author.Tests.{leb-true}
+use borrow.Author.Tests.{leb-true, le-leb, lt-leb}
 use Rattle.font.specs.declared.tables.Table.{Table}
 use Rattle.font.specs.declared.tables.Table.the-variants.{Absent, Found}
-use Rattle.font.specs.Tables.{tableOfRecord, findTable, partOf, tableData, recordLength, recordOffset, firstRecord, directoryFits, startsAsFont, u32At, recordCount}
+use Rattle.font.specs.Tables.{tableOfRecord, findTable, partOf, tableData, recordLength, recordOffset, firstRecord, directoryFits, startsAsFont, u16At, u32At, recordCount}
+
+-- a directory whose header reaches past the file does not fit, and of any other the start and the records tell
+pub past-file : (font : List ℕ) (start : ℕ) → length font < start + 12 → false ≡ directoryFits font start
+unfolding directoryFits
+past-file font start h = rw (lt-leb (start + 12) (length font) h)
+
+pub fits-by : (font : List ℕ) (start : ℕ) → start + 12 ≤ length font
+    → (startsAsFont (u32At font start) && leb (start + 12 + 16 * u16At font (start + 4)) (length font)) ≡ directoryFits font start
+unfolding directoryFits recordCount
+fits-by font start h = rw (le-leb (start + 12) (length font) h)
 
 -- the records of a directory that fits lie in the file
-pub records-inside : (font : List ℕ) → directoryFits font ≡ true → 12 + 16 * recordCount font ≤ length font
+pub records-inside : (font : List ℕ) (start : ℕ) → directoryFits font start ≡ true → start + 12 + 16 * recordCount font start ≤ length font
 unfolding directoryFits
-records-inside font =
-    go (leb 12 (length font)) (startsAsFont (u32At font 0)) (leb (12 + 16 * recordCount font) (length font)) refl
+records-inside font start =
+    go (leb (start + 12) (length font)) (startsAsFont (u32At font start)) (leb (start + 12 + 16 * recordCount font start) (length font)) refl
   where
-    go : (a b c : Bool) → leb (12 + 16 * recordCount font) (length font) ≡ c → a && (b && c) ≡ true → 12 + 16 * recordCount font ≤ length font
-    go true true c e h = leb-true (12 + 16 * recordCount font) (length font) (e ∙ h)
+    go : (a b c : Bool) → leb (start + 12 + 16 * recordCount font start) (length font) ≡ c → a && (b && c) ≡ true → start + 12 + 16 * recordCount font start ≤ length font
+    go true true c e h = leb-true (start + 12 + 16 * recordCount font start) (length font) (e ∙ h)
     go true false c e h = absurd (let z : _≡_ {A = ℕ} 0 1 = cc in omega arith)
     go false b c e h = absurd (let z : _≡_ {A = ℕ} 0 1 = cc in omega arith)
 
@@ -29,46 +39,46 @@ pub record Within (font : List ℕ) (least offset len : ℕ) : Type 0 where
   pub inside : offset + len ≤ length font
   pub enough : least ≤ len
 
-of-record : (font : List ℕ) (least i o n : ℕ) → tableOfRecord font least i ≡ Found o n → Within font least o n
+of-record : (font : List ℕ) (start : ℕ) (least i o n : ℕ) → tableOfRecord font start least i ≡ Found o n → Within font least o n
 unfolding tableOfRecord
-of-record font least i o n = go (leb least (recordLength font i)) (leb (recordOffset font i + recordLength font i) (length font)) refl refl
+of-record font start least i o n = go (leb least (recordLength font start i)) (leb (recordOffset font start i + recordLength font start i) (length font)) refl refl
   where
-    go : (a b : Bool) → leb least (recordLength font i) ≡ a
-        → leb (recordOffset font i + recordLength font i) (length font) ≡ b
-        → cond (a && b) (Found (recordOffset font i) (recordLength font i)) Absent ≡ Found o n
+    go : (a b : Bool) → leb least (recordLength font start i) ≡ a
+        → leb (recordOffset font start i + recordLength font start i) (length font) ≡ b
+        → cond (a && b) (Found (recordOffset font start i) (recordLength font start i)) Absent ≡ Found o n
         → Within font least o n
     go true true p q e =
-        let at : recordOffset font i ≡ o = cc in
-        let long : recordLength font i ≡ n = cc in
-        record { inside = omega (arith, leb-true (recordOffset font i + recordLength font i) (length font) q); enough = omega (arith, leb-true least (recordLength font i) p) }
+        let at : recordOffset font start i ≡ o = cc in
+        let long : recordLength font start i ≡ n = cc in
+        record { inside = omega (arith, leb-true (recordOffset font start i + recordLength font start i) (length font) q); enough = omega (arith, leb-true least (recordLength font start i) p) }
     go true false p q e = absurd (let z : _≡_ {A = ℕ} 0 1 = cc in omega arith)
     go false b p q e = absurd (let z : _≡_ {A = ℕ} 0 1 = cc in omega arith)
 
-pub within : (font : List ℕ) (tag least o n : ℕ) → findTable font tag least ≡ Found o n → Within font least o n
+pub within : (font : List ℕ) (start : ℕ) (tag least o n : ℕ) → findTable font start tag least ≡ Found o n → Within font least o n
 unfolding findTable
-within font tag least o n = go (directoryFits font && ltb (firstRecord font tag) (recordCount font))
+within font start tag least o n = go (directoryFits font start && ltb (firstRecord font start tag) (recordCount font start))
   where
-    go : (a : Bool) → cond a (tableOfRecord font least (firstRecord font tag)) Absent ≡ Found o n → Within font least o n
-    go true e = of-record font least (firstRecord font tag) o n e
+    go : (a : Bool) → cond a (tableOfRecord font start least (firstRecord font start tag)) Absent ≡ Found o n → Within font least o n
+    go true e = of-record font start least (firstRecord font start tag) o n e
     go false e = absurd (let z : _≡_ {A = ℕ} 0 1 = cc in omega arith)
 
 -- its part of the file has the bytes that were asked for
-pub long : (font : List ℕ) (tag least o n : ℕ) → findTable font tag least ≡ Found o n → least ≤ length (take n (drop o font))
-long font tag least o n e = let w = within font tag least o n e in simp (length-take, length-drop) (omega (arith, w .inside, w .enough))
+pub long : (font : List ℕ) (start : ℕ) (tag least o n : ℕ) → findTable font start tag least ≡ Found o n → least ≤ length (take n (drop o font))
+long font start tag least o n e = let w = within font start tag least o n e in simp (length-take, length-drop) (omega (arith, w .inside, w .enough))
 
-pub found-part : (font : List ℕ) (tag least o n : ℕ) → findTable font tag least ≡ Found o n → take (o + n - o) (drop o font) ≡ tableData font tag least
+pub found-part : (font : List ℕ) (start : ℕ) (tag least o n : ℕ) → findTable font start tag least ≡ Found o n → take (o + n - o) (drop o font) ≡ tableData font start tag least
 unfolding partOf tableData
-found-part font tag least o n e = rw (add-sub-cancel-left, e)
+found-part font start tag least o n e = rw (add-sub-cancel-left, e)
 
-pub absent-part : (font : List ℕ) (tag least : ℕ) → findTable font tag least ≡ Absent → [] ≡ tableData font tag least
+pub absent-part : (font : List ℕ) (start : ℕ) (tag least : ℕ) → findTable font start tag least ≡ Absent → [] ≡ tableData font start tag least
 unfolding partOf tableData
-absent-part font tag least e = rw e
+absent-part font start tag least e = rw e
 
 -- a table is handed out as no bytes or as at least the bytes that were asked for
-pub none-or-long : (font : List ℕ) (tag least : ℕ) → (tableData font tag least ≡ []) ⊎ (least ≤ length (tableData font tag least))
+pub none-or-long : (font : List ℕ) (start : ℕ) (tag least : ℕ) → (tableData font start tag least ≡ []) ⊎ (least ≤ length (tableData font start tag least))
 unfolding tableData partOf
-none-or-long font tag least = go (findTable font tag least) refl
+none-or-long font start tag least = go (findTable font start tag least) refl
   where
-    go : (t : Table) → findTable font tag least ≡ t → (partOf font t ≡ []) ⊎ (least ≤ length (partOf font t))
+    go : (t : Table) → findTable font start tag least ≡ t → (partOf font t ≡ []) ⊎ (least ≤ length (partOf font t))
     go Absent e = inl refl
-    go (Found o n) e = inr (long font tag least o n e)
+    go (Found o n) e = inr (long font start tag least o n e)

@@ -9,39 +9,39 @@ use Rattle.font.specs.declared.tables.Table.{Table}
 use Rattle.font.specs.declared.tables.Table.the-variants.{Absent, Found}
 use Rattle.font.specs.Tables.{u16At, directoryFits, findTable, partOf}
 use Rattle.font.specs.Charmap.{qualifies, someQualifies, indexIn, charmapIndex, NoneQualifies}
-use Rattle.font.specs.Font.{fvarOf, axisCount, hasIndex, fontRefusal}
+use Rattle.font.specs.Font.{fvarOf, axisCount, hasIndex, refusalAt}
 use Rattle.font.proofs.First.{some-fails, all-fail}
 use Rattle.font.proofs.Records.{table-has}
 
 -- a font has no index exactly where no record qualifies
-missing : (font : List ℕ) → hasIndex (charmapIndex font) ≡ false → NoneQualifies font
+missing : (font : List ℕ) (start : ℕ) → hasIndex (charmapIndex font start) ≡ false → NoneQualifies font start
 unfolding charmapIndex indexIn someQualifies
-missing font h offset len e =
+missing font start h offset len e =
     let cmap = partOf font (Found offset len) in
     all-fail (qualifies cmap) (u16At cmap 2) (sym (table-has offset cmap) ∙ rw e at h)
 
-none-missing : (font : List ℕ) → NoneQualifies font → hasIndex (charmapIndex font) ≡ false
+none-missing : (font : List ℕ) (start : ℕ) → NoneQualifies font start → hasIndex (charmapIndex font start) ≡ false
 unfolding charmapIndex indexIn hasIndex someQualifies
-none-missing font h = go (findTable font 0x636D6170 4) refl
+none-missing font start h = go (findTable font start 0x636D6170 4) refl
   where
-    go : (t : Table) → findTable font 0x636D6170 4 ≡ t → hasIndex (indexIn font t) ≡ false
+    go : (t : Table) → findTable font start 0x636D6170 4 ≡ t → hasIndex (indexIn font t) ≡ false
     go Absent e = refl
     go (Found offset len) e =
         let cmap = partOf font (Found offset len) in
         table-has offset cmap ∙ some-fails (qualifies cmap) (u16At cmap 2) (h offset len e)
 
 -- 22 comes after 21 and before 23
-pub refused-22 : (font : List ℕ) → fontRefusal font ≡ 22 → (directoryFits font ≡ true) × NoneQualifies font
-unfolding fontRefusal
-refused-22 font z = go (directoryFits font) (hasIndex (charmapIndex font)) (leb (axisCount (fvarOf font)) 16) refl refl z
+pub refused-22 : (font : List ℕ) (start : ℕ) → refusalAt font start ≡ 22 → (directoryFits font start ≡ true) × NoneQualifies font start
+unfolding refusalAt
+refused-22 font start z = go (directoryFits font start) (hasIndex (charmapIndex font start)) (leb (axisCount (fvarOf font start)) 16) refl refl z
   where
-    go : (a b c : Bool) → directoryFits font ≡ a → hasIndex (charmapIndex font) ≡ b → _≡_ {A = ℕ} (cond a (cond b (cond c 0 23) 22) 21) 22
-        → (directoryFits font ≡ true) × NoneQualifies font
-    go true false c d e z = (d, missing font e)
+    go : (a b c : Bool) → directoryFits font start ≡ a → hasIndex (charmapIndex font start) ≡ b → _≡_ {A = ℕ} (cond a (cond b (cond c 0 23) 22) 21) 22
+        → (directoryFits font start ≡ true) × NoneQualifies font start
+    go true false c d e z = (d, missing font start e)
     go true true true d e z = absurd (omega arith)
     go true true false d e z = absurd (omega arith)
     go false b c d e z = absurd (omega arith)
 
-pub gives-22 : (font : List ℕ) → directoryFits font ≡ true → NoneQualifies font → fontRefusal font ≡ 22
-unfolding fontRefusal
-gives-22 font d h = rw (d, none-missing font h)
+pub gives-22 : (font : List ℕ) (start : ℕ) → directoryFits font start ≡ true → NoneQualifies font start → refusalAt font start ≡ 22
+unfolding refusalAt
+gives-22 font start d h = rw (d, none-missing font start h)

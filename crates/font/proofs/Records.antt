@@ -114,9 +114,9 @@ table-has offset cmap = go (someQualifies cmap) _
     go false index = refl
 
 -- so does a font; an absent table has no records
-pub font-has : (font : List ℕ) → hasIndex (charmapIndex font) ≡ someQualifies (tableData font 0x636D6170 4)
+pub font-has : (font : List ℕ) (start : ℕ) → hasIndex (charmapIndex font start) ≡ someQualifies (tableData font start 0x636D6170 4)
 unfolding hasIndex charmapIndex indexIn tableData partOf someQualifies some u16At
-font-has font = go (findTable font 0x636D6170 4)
+font-has font start = go (findTable font start 0x636D6170 4)
   where
     go : (t : Table) → hasIndex (indexIn font t) ≡ someQualifies (partOf font t)
     go Absent = refl

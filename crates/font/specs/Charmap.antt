@@ -68,15 +68,15 @@ indexOf offset cmap =
     Missing
 
 unfoldable pub indexIn : List ℕ → Table → Charmap
-indexIn font Absent = Missing
-indexIn font (Found offset len) = indexOf offset (partOf font (Found offset len))
+indexIn file Absent = Missing
+indexIn file (Found offset len) = indexOf offset (partOf file (Found offset len))
 
 -- `cmap`, at least 4 bytes
-unfoldable pub charmapIndex : List ℕ → Charmap
-charmapIndex font = indexIn font (findTable font 0x636D6170 4)
+unfoldable pub charmapIndex : List ℕ → ℕ → Charmap
+charmapIndex file start = indexIn file (findTable file start 0x636D6170 4)
 
 -- "no qualifying `cmap` record", the condition of refusal 22: where a font has the table, none of its records qualifies
-abbrev pub NoneQualifies : List ℕ → Type 0
-NoneQualifies font =
-    (offset len : ℕ) → findTable font 0x636D6170 4 ≡ Found offset len
-    → (i : ℕ) → i < u16At (partOf font (Found offset len)) 2 → qualifies (partOf font (Found offset len)) i ≡ false
+abbrev pub NoneQualifies : List ℕ → ℕ → Type 0
+NoneQualifies file start =
+    (offset len : ℕ) → findTable file start 0x636D6170 4 ≡ Found offset len
+    → (i : ℕ) → i < u16At (partOf file (Found offset len)) 2 → qualifies (partOf file (Found offset len)) i ≡ false

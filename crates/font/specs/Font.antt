@@ -10,16 +10,18 @@ use Rattle.font.specs.declared.charmap.Charmap.the-variants.{Missing, In
 use Rattle.font.specs.declared.font.AxisInfo.{AxisInfo}
 use Rattle.font.specs.declared.font.FontInfo.{FontInfo}
 use Rattle.font.specs.declared.font.Checked.{Checked}
+use Rattle.font.specs.declared.font.Stated.{Stated}
 use Rattle.font.specs.First.{first, tabulate}
 use Rattle.font.specs.Single.{single, fixedToSingle}
 use Rattle.font.specs.Attributes.{defaultAttributes}
 use Rattle.font.specs.Tables.{u16At, u32At, tableData, directoryFits}
+use Rattle.font.specs.Collection.{headerFits, fontCount, fontStart}
 use Rattle.font.specs.Charmap.{charmapIndex}
 use Rattle.font.specs.Reading.{present, readAttributes}
 
 -- "`fvar`, at least 16 bytes"
-unfoldable pub fvarOf : List ℕ → List ℕ
-fvarOf font = tableData font 0x66766172 16
+unfoldable pub fvarOf : List ℕ → ℕ → List ℕ
+fvarOf file start = tableData file start 0x66766172 16
 
 -- "16-bit axis offset at 4, count at 8, size at 10. Size other than 20, or records past the table, give no axes."
 unfoldable pub axisCount : List ℕ → ℕ
@@ -59,24 +61,31 @@ indexOr other Missing = other
 indexOr other (Index index) = index
 
 -- ---- section 6, the rows of a font: 21 "bad start or directory past file", 22 "no qualifying `cmap` record",
--- 23 "over 16 axes given by section 2"; 0 is no refusal
-unfoldable pub fontRefusal : List ℕ → ℕ
-fontRefusal font =
-    cond (directoryFits font)
-    (cond (hasIndex (charmapIndex font))
-    (cond (leb (axisCount (fvarOf font)) 16) 0 23)
+-- 23 "over 16 axes given by section 2"; 0 is no refusal. Of the font whose directory begins at `start`.
+unfoldable pub refusalAt : List ℕ → ℕ → ℕ
+refusalAt file start =
+    cond (directoryFits file start)
+    (cond (hasIndex (charmapIndex file start))
+    (cond (leb (axisCount (fvarOf file start)) 16) 0 23)
     22)
+    21
+
+-- of the font of a number. "(30 ..: the font number is not below the count; after the 12 header bytes are found .. before any other 21.)"
+unfoldable pub fontRefusal : List ℕ → ℕ → ℕ
+fontRefusal file number =
+    cond (headerFits file)
+    (cond (ltb number (fontCount file)) (refusalAt file (fontStart file number)) 30)
     21
 
 -- ---- the face that a font file gives
 
-unfoldable pub faceOf : List ℕ → FontInfo
-faceOf font =
+unfoldable pub faceOf : List ℕ → ℕ → FontInfo
+faceOf file start =
     record {
-      attributes = readAttributes font;
-      axes = axesOf (fvarOf font) (axisCount (fvarOf font));
-      «axis_count» = axisCount (fvarOf font);
-      «charmap_index» = indexOr noIndex (charmapIndex font);
+      attributes = readAttributes file start;
+      axes = axesOf (fvarOf file start) (axisCount (fvarOf file start));
+      «axis_count» = axisCount (fvarOf file start);
+      «charmap_index» = indexOr noIndex (charmapIndex file start);
     }
 
 -- the face that stands beside a refusal
@@ -84,11 +93,22 @@ unfoldable pub emptyFont : FontInfo
 emptyFont =
     record { attributes = defaultAttributes; axes = tabulate (λ i. noAxis) 16; «axis_count» = 0; «charmap_index» = noIndex }
 
-unfoldable pub fromFontRef : List ℕ → Checked
-fromFontRef font =
-    record { refusal = fontRefusal font; font = cond (eqb (fontRefusal font) 0) (faceOf font) emptyFont }
+-- a refusal, or 0 and the face of the font whose directory begins at `start`
+unfoldable pub checkedBy : ℕ → List ℕ → ℕ → Checked
+checkedBy refusal file start = record { refusal = refusal; font = cond (eqb refusal 0) (faceOf file start) emptyFont }
 
--- whether an axis with the tag is among those that a font file gives
-unfoldable pub statesAxis : List ℕ → ℕ → Bool
-statesAxis font tag =
-    ltb (first (λ i. eqb (axisAt (fvarOf font) i .tag) tag) (axisCount (fvarOf font))) (axisCount (fvarOf font))
+unfoldable pub checkedAt : List ℕ → ℕ → Checked
+checkedAt file start = checkedBy (refusalAt file start) file start
+
+-- of the font of a number
+unfoldable pub fromFontRef : List ℕ → ℕ → Checked
+fromFontRef file number = checkedBy (fontRefusal file number) file (fontStart file number)
+
+-- whether an axis with the tag is among those that a font gives
+unfoldable pub statesAxis : List ℕ → ℕ → ℕ → Bool
+statesAxis file start tag =
+    ltb (first (λ i. eqb (axisAt (fvarOf file start) i .tag) tag) (axisCount (fvarOf file start))) (axisCount (fvarOf file start))
+
+-- what the choice of a face looks at
+unfoldable pub statedAt : List ℕ → ℕ → ℕ → Stated
+statedAt file start tag = record { attributes = readAttributes file start; «has_axis» = statesAxis file start tag }

@@ -4,6 +4,7 @@ pub mod Single
 pub mod Nearest
 pub mod Attributes
 pub mod Tables
+pub mod Collection
 pub mod Charmap
 pub mod Reading
 pub mod Font

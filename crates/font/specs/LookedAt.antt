@@ -7,10 +7,11 @@ use lib.ListN.{length, take}
 use Rattle.font.specs.declared.tables.Table.the-variants.{Found}
 use Rattle.font.specs.declared.charmap.Charmap.the-variants.{Missing, Index}
 use Rattle.font.specs.declared.font.FontInfo.{FontInfo}
-use Rattle.font.specs.Tables.{u16At, findTable, tableData}
+use Rattle.font.specs.Tables.{u16At, directoryFits, findTable, tableData}
+use Rattle.font.specs.Collection.{fontStart}
 use Rattle.font.specs.Charmap.{subtableOffset, liesIn, pairClass, qualifies, charmapIndex}
 use Rattle.font.specs.Reading.{readAttributes}
-use Rattle.font.specs.Font.{fvarOf, axisCount, axesOf, fontRefusal, statesAxis}
+use Rattle.font.specs.Font.{fvarOf, axisCount, axesOf, refusalAt, fontRefusal, fromFontRef, statesAxis}
 
 -- ---- tables that are alike; an absent one is handed out as no bytes
 
@@ -86,35 +87,35 @@ pub record CutTables (s t : ℕ → ℕ → List ℕ) : Type 0 where
   pub fvar : CutAxes (s 0x66766172 16) (t 0x66766172 16)
   pub cmap : CutRecords (s 0x636D6170 4) (t 0x636D6170 4)
 
--- ---- what is read of font files
+-- ---- what is read of font files, each from its directory's start on
 
 -- the charmap index of a font is that of the record i of its `cmap`, which qualifies
-pub record OfRecord (font : List ℕ) (i : ℕ) (symbol roman : Bool) : Type 0 where
+pub record OfRecord (file : List ℕ) (start i : ℕ) (symbol roman : Bool) : Type 0 where
   pub offset : ℕ
   pub len : ℕ
-  pub lies : findTable font 0x636D6170 4 ≡ Found offset len
-  pub stated : i < u16At (tableData font 0x636D6170 4) 2
-  pub qualified : qualifies (tableData font 0x636D6170 4) i ≡ true
-  pub index : charmapIndex font
+  pub lies : findTable file start 0x636D6170 4 ≡ Found offset len
+  pub stated : i < u16At (tableData file start 0x636D6170 4) 2
+  pub qualified : qualifies (tableData file start 0x636D6170 4) i ≡ true
+  pub index : charmapIndex file start
       ≡ Index
       (record {
-        «subtable_offset» = offset + subtableOffset (tableData font 0x636D6170 4) i;
+        «subtable_offset» = offset + subtableOffset (tableData file start 0x636D6170 4) i;
         «is_symbol» = symbol;
         «is_mac_roman» = roman;
       })
 
 -- no index in both, or in both that of one record, with the same flags
-pub data SameIndex (f g : List ℕ) : Type 0 where
-  missing : charmapIndex f ≡ Missing → charmapIndex g ≡ Missing → SameIndex f g
-  of-record : (i : ℕ) (symbol roman : Bool) → OfRecord f i symbol roman → OfRecord g i symbol roman → SameIndex f g
+pub data SameIndex (f : List ℕ) (a : ℕ) (g : List ℕ) (b : ℕ) : Type 0 where
+  missing : charmapIndex f a ≡ Missing → charmapIndex g b ≡ Missing → SameIndex f a g b
+  of-record : (i : ℕ) (symbol roman : Bool) → OfRecord f a i symbol roman → OfRecord g b i symbol roman → SameIndex f a g b
 
-pub record SameReading (f g : List ℕ) : Type 0 where
-  pub attributes : readAttributes f ≡ readAttributes g
-  pub axis-count : axisCount (fvarOf f) ≡ axisCount (fvarOf g)
-  pub axes : axesOf (fvarOf f) (axisCount (fvarOf f)) ≡ axesOf (fvarOf g) (axisCount (fvarOf g))
-  pub states : (tag : ℕ) → statesAxis f tag ≡ statesAxis g tag
-  pub refusal : fontRefusal f ≡ fontRefusal g
-  pub index : SameIndex f g
+pub record SameReading (f : List ℕ) (a : ℕ) (g : List ℕ) (b : ℕ) : Type 0 where
+  pub attributes : readAttributes f a ≡ readAttributes g b
+  pub axis-count : axisCount (fvarOf f a) ≡ axisCount (fvarOf g b)
+  pub axes : axesOf (fvarOf f a) (axisCount (fvarOf f a)) ≡ axesOf (fvarOf g b) (axisCount (fvarOf g b))
+  pub states : (tag : ℕ) → statesAxis f a tag ≡ statesAxis g b tag
+  pub refusal : refusalAt f a ≡ refusalAt g b
+  pub index : SameIndex f a g b
 
 -- a face whose charmap subtable is said to lie at n
 unfoldable pub subtableAt : ℕ → FontInfo → FontInfo
@@ -129,3 +130,29 @@ subtableAt n face =
         «is_mac_roman» = face .«charmap_index» .«is_mac_roman»;
       };
     }
+
+-- ---- a font of a collection and a lone font with the same tables
+
+-- The fonts m of f and n of g: both directories fit, and each of the five tables has the same bytes in both or is absent in both.
+pub record SameFont (f : List ℕ) (m : ℕ) (g : List ℕ) (n : ℕ) : Type 0 where
+  pub first-fits : directoryFits f (fontStart f m) ≡ true
+  pub second-fits : directoryFits g (fontStart g n) ≡ true
+  pub tables : EqualTables (tableData f (fontStart f m)) (tableData g (fontStart g n))
+
+-- the offset x in f and y in g differ as the places do where the `cmap` of the two fonts lies
+pub record MovedWithCmap (f : List ℕ) (m : ℕ) (g : List ℕ) (n : ℕ) (x y : ℕ) : Type 0 where
+  pub first : ℕ
+  pub first-length : ℕ
+  pub second : ℕ
+  pub second-length : ℕ
+  pub first-lies : findTable f (fontStart f m) 0x636D6170 4 ≡ Found first first-length
+  pub second-lies : findTable g (fontStart g n) 0x636D6170 4 ≡ Found second second-length
+  pub moved : x + second ≡ y + first
+
+-- "as for a lone font with the same tables, save the `cmap` offset". Proved in proofs/SameFonts.antt.
+pub record ReadAlike (f : List ℕ) (m : ℕ) (g : List ℕ) (n : ℕ) : Type 0 where
+  pub reading : SameReading f (fontStart f m) g (fontStart g n)
+  pub refusal : fontRefusal f m ≡ fontRefusal g n
+  pub face : fromFontRef f m .font ≡ subtableAt (fromFontRef f m .font .«charmap_index» .«subtable_offset») (fromFontRef g n .font)
+  pub offset : fontRefusal f m ≡ 0
+      → MovedWithCmap f m g n (fromFontRef f m .font .«charmap_index» .«subtable_offset») (fromFontRef g n .font .«charmap_index» .«subtable_offset»)

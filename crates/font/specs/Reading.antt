@@ -55,8 +55,8 @@ unfoldable pub fromHead : List ℕ → Attributes
 fromHead head = attributesOf (single 1) (headStyle (u16At head 44)) (headWeight (u16At head 44))
 
 -- "OS/2, at least 78 bytes .. Without OS/2, `head` (54 bytes) .. Without both: defaults."
-unfoldable pub readAttributes : List ℕ → Attributes
-readAttributes font =
-    cond (present (tableData font 0x4F532F32 78)) (fromOs2Post (tableData font 0x4F532F32 78) (tableData font 0x706F7374 32))
-    (cond (present (tableData font 0x68656164 54)) (fromHead (tableData font 0x68656164 54))
+unfoldable pub readAttributes : List ℕ → ℕ → Attributes
+readAttributes file start =
+    cond (present (tableData file start 0x4F532F32 78)) (fromOs2Post (tableData file start 0x4F532F32 78) (tableData file start 0x706F7374 32))
+    (cond (present (tableData file start 0x68656164 54)) (fromHead (tableData file start 0x68656164 54))
     defaultAttributes)

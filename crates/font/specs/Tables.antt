@@ -19,45 +19,46 @@ u32At s at = cond (leb (at + 4) (length s)) (u16At s at * 65536 + u16At s (at + 
 unfoldable pub startsAsFont : ℕ → Bool
 startsAsFont v = eqb v 0x00010000 || (eqb v 0x4F54544F || eqb v 0x74727565)
 
--- "a 16-bit table count, 6 more bytes, then 16-byte records: tag, checksum, offset, length."
-unfoldable pub recordCount : List ℕ → ℕ
-recordCount font = u16At font 4
+-- "a 16-bit table count, 6 more bytes, then 16-byte records: tag, checksum, offset, length." They stand from `start` on, where the font's directory begins.
+unfoldable pub recordCount : List ℕ → ℕ → ℕ
+recordCount file start = u16At file (start + 4)
 
-unfoldable pub recordTag : List ℕ → ℕ → ℕ
-recordTag font i = u32At font (12 + 16 * i)
+unfoldable pub recordTag : List ℕ → ℕ → ℕ → ℕ
+recordTag file start i = u32At file (start + 12 + 16 * i)
 
-unfoldable pub recordOffset : List ℕ → ℕ → ℕ
-recordOffset font i = u32At font (20 + 16 * i)
+unfoldable pub recordOffset : List ℕ → ℕ → ℕ → ℕ
+recordOffset file start i = u32At file (start + 20 + 16 * i)
 
-unfoldable pub recordLength : List ℕ → ℕ → ℕ
-recordLength font i = u32At font (24 + 16 * i)
+unfoldable pub recordLength : List ℕ → ℕ → ℕ → ℕ
+recordLength file start i = u32At file (start + 24 + 16 * i)
 
 -- refusal 21 is "bad start or directory past file"; the header of 12 bytes is part of the directory
-unfoldable pub directoryFits : List ℕ → Bool
-directoryFits font =
-    leb 12 (length font) && (startsAsFont (u32At font 0) && leb (12 + 16 * recordCount font) (length font))
+unfoldable pub directoryFits : List ℕ → ℕ → Bool
+directoryFits file start =
+    leb (start + 12) (length file)
+    && (startsAsFont (u32At file start) && leb (start + 12 + 16 * recordCount file start) (length file))
 
 -- "The first record with a tag counts." The count of records stands for none.
-unfoldable pub firstRecord : List ℕ → ℕ → ℕ
-firstRecord font tag = first (λ i. eqb (recordTag font i) tag) (recordCount font)
+unfoldable pub firstRecord : List ℕ → ℕ → ℕ → ℕ
+firstRecord file start tag = first (λ i. eqb (recordTag file start i) tag) (recordCount file start)
 
--- "A table reaching past the file, or shorter than needed, is absent."
-unfoldable pub tableOfRecord : List ℕ → ℕ → ℕ → Table
-tableOfRecord font least i =
-    cond (leb least (recordLength font i) && leb (recordOffset font i + recordLength font i) (length font))
-    (Found (recordOffset font i) (recordLength font i))
+-- "A table reaching past the file, or shorter than needed, is absent." "Table offsets count from the start of the file."
+unfoldable pub tableOfRecord : List ℕ → ℕ → ℕ → ℕ → Table
+tableOfRecord file start least i =
+    cond (leb least (recordLength file start i) && leb (recordOffset file start i + recordLength file start i) (length file))
+    (Found (recordOffset file start i) (recordLength file start i))
     Absent
 
-unfoldable pub findTable : List ℕ → ℕ → ℕ → Table
-findTable font tag least =
-    cond (directoryFits font && ltb (firstRecord font tag) (recordCount font))
-    (tableOfRecord font least (firstRecord font tag))
+unfoldable pub findTable : List ℕ → ℕ → ℕ → ℕ → Table
+findTable file start tag least =
+    cond (directoryFits file start && ltb (firstRecord file start tag) (recordCount file start))
+    (tableOfRecord file start least (firstRecord file start tag))
     Absent
 
 -- "A found table is handed out as that part of the file and no other." An absent one is the empty part.
 unfoldable pub partOf : List ℕ → Table → List ℕ
-partOf font Absent = []
-partOf font (Found offset len) = take len (drop offset font)
+partOf file Absent = []
+partOf file (Found offset len) = take len (drop offset file)
 
-unfoldable pub tableData : List ℕ → ℕ → ℕ → List ℕ
-tableData font tag least = partOf font (findTable font tag least)
+unfoldable pub tableData : List ℕ → ℕ → ℕ → ℕ → List ℕ
+tableData file start tag least = partOf file (findTable file start tag least)

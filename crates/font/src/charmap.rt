@@ -4,8 +4,10 @@ ghost use mathlib.Core.Bool.{true};
 ghost use Prim.Native.Nat.{_+_, _*_, _^_, _≤_, _<_};
 ghost use lib.ListN.{length};
 ghost use Rattle.font.specs.Tables.{directoryFits};
+ghost use Rattle.font.specs.Collection.{fontStart};
 ghost use Rattle.font.specs.Charmap.{classOf, recordClass, someQualifies, bestClass, bestRecord, indexOf, charmapIndex};
 ghost use Rattle.font.specs.Font.{hasIndex};
+use crate::collection::font_start;
 use crate::tables;
 use crate::tables::Table;
 
@@ -124,13 +126,13 @@ fn index_of(offset: usize, cmap: &[u8]) -> Charmap
     Charmap::Missing
 }
 
-// The charmap index of a font whose directory fits.
-pub(crate) fn index_in(font: &[u8]) -> Charmap
-    requires { ⌜ directoryFits (now font) ≡ true ⌝ }
-    ensures { λ r. ⌜ r ≡ charmapIndex (now (font .entry)) ⌝ }
+// The charmap index of a font whose directory, at `start`, fits.
+pub(crate) fn index_in(file: &[u8], start: usize) -> Charmap
+    requires { ⌜ directoryFits (now file) start ≡ true ⌝ }
+    ensures { λ r. ⌜ r ≡ charmapIndex (now (file .entry)) start ⌝ }
 {
-    match tables::table_in(font, 0x636D_6170, 4) {
-        Table::Found { offset, length } => index_of(offset, &font[offset..offset + length]),
+    match tables::table_in(file, start, 0x636D_6170, 4) {
+        Table::Found { offset, length } => index_of(offset, &file[offset..offset + length]),
         Table::Absent => Charmap::Missing,
     }
 }
@@ -153,20 +155,22 @@ fn has_class(cmap: &[u8]) -> bool
     false
 }
 
-// Whether a font whose directory fits has a charmap index.
-pub(crate) fn has_index_in(font: &[u8]) -> bool
-    requires { ⌜ directoryFits (now font) ≡ true ⌝ }
-    ensures { λ r. ⌜ r ≡ hasIndex (charmapIndex (now (font .entry))) ⌝ }
+// Whether a font whose directory, at `start`, fits has a charmap index.
+pub(crate) fn has_index_in(file: &[u8], start: usize) -> bool
+    requires { ⌜ directoryFits (now file) start ≡ true ⌝ }
+    ensures { λ r. ⌜ r ≡ hasIndex (charmapIndex (now (file .entry)) start) ⌝ }
 {
-    has_class(tables::data_in(font, 0x636D_6170, 4))
+    has_class(tables::data_in(file, start, 0x636D_6170, 4))
 }
 
 impl CharmapIndex {
-    pub fn new(font: &[u8]) -> Charmap
-        ensures { λ r. ⌜ r ≡ charmapIndex (now (font .entry)) ⌝ }
+    // The charmap index of the font of a number.
+    pub fn new(file: &[u8], number: u16) -> Charmap
+        ensures { λ r. ⌜ r ≡ charmapIndex (now (file .entry)) (fontStart (now (file .entry)) number) ⌝ }
     {
-        if tables::directory_fits(font) {
-            return index_in(font);
+        let start = font_start(file, number);
+        if tables::directory_fits(file, start) {
+            return index_in(file, start);
         }
         Charmap::Missing
     }

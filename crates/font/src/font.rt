@@ -7,7 +7,8 @@ ghost use Rattle.font.specs.First.{first};
 ghost use Rattle.font.specs.Reading.{widthOfClass, postAngle, os2Style, fromOs2Post, headStyle, headWeight, fromHead, readAttributes};
 ghost use Rattle.font.specs.Tables.{directoryFits, tableData};
 ghost use Rattle.font.specs.Charmap.{charmapIndex};
-ghost use Rattle.font.specs.Font.{fvarOf, axisCount, axisAt, axesOf, emptyFont, fontRefusal, fromFontRef, statesAxis};
+ghost use Rattle.font.specs.Collection.{fontStart};
+ghost use Rattle.font.specs.Font.{fvarOf, axisCount, axisAt, axesOf, emptyFont, refusalAt, fontRefusal, checkedAt, fromFontRef, statesAxis, statedAt};
 use crate::attributes::Angle;
 use crate::attributes::Attributes;
 use crate::attributes::FontStyle;
@@ -16,6 +17,8 @@ use crate::attributes::FontWidth;
 use crate::charmap;
 use crate::charmap::Charmap;
 use crate::charmap::CharmapIndex;
+use crate::collection::font_count;
+use crate::collection::font_start;
 use crate::single;
 use crate::tables;
 
@@ -62,6 +65,12 @@ pub struct Checked {
     pub font: FontInfo,
 }
 
+// What the choice of a face looks at in a font.
+pub struct Stated {
+    pub attributes: Attributes,
+    pub has_axis: bool,
+}
+
 fn width_from_width_class(class: u16) -> FontWidth
     ensures { λ r. ⌜ r .ratio ≡ widthOfClass class ⌝ }
 {
@@ -83,26 +92,26 @@ fn post_angle(post: &[u8]) -> Angle
 }
 
 // The `post` table is looked up for an oblique face alone.
-fn os2_style(font: &[u8], os2: &[u8]) -> FontStyle
-    requires { ⌜ directoryFits (now font) ≡ true ⌝ }
-    ensures { λ r. ⌜ r ≡ os2Style (now (os2 .entry)) (tableData (now (font .entry)) 0x706F7374 32) ⌝ }
+fn os2_style(file: &[u8], start: usize, os2: &[u8]) -> FontStyle
+    requires { ⌜ directoryFits (now file) start ≡ true ⌝ }
+    ensures { λ r. ⌜ r ≡ os2Style (now (os2 .entry)) (tableData (now (file .entry)) start 0x706F7374 32) ⌝ }
 {
     let selection = tables::u16_at(os2, 62);
     if selection % 2 == 1 {
         return FontStyle::Italic;
     }
     if selection / 512 % 2 == 1 {
-        return FontStyle::Oblique(post_angle(tables::data_in(font, POST, 32)));
+        return FontStyle::Oblique(post_angle(tables::data_in(file, start, POST, 32)));
     }
     FontStyle::Normal
 }
 
-fn from_os2_post(font: &[u8], os2: &[u8]) -> Attributes
-    requires { ⌜ directoryFits (now font) ≡ true ⌝ }
-    ensures { λ r. ⌜ r ≡ fromOs2Post (now (os2 .entry)) (tableData (now (font .entry)) 0x706F7374 32) ⌝ }
+fn from_os2_post(file: &[u8], start: usize, os2: &[u8]) -> Attributes
+    requires { ⌜ directoryFits (now file) start ≡ true ⌝ }
+    ensures { λ r. ⌜ r ≡ fromOs2Post (now (os2 .entry)) (tableData (now (file .entry)) start 0x706F7374 32) ⌝ }
 {
     let width = width_from_width_class(tables::u16_at(os2, 6));
-    let style = os2_style(font, os2);
+    let style = os2_style(file, start, os2);
     let weight = FontWeight::new(tables::u16_at(os2, 4) as f32);
     Attributes::new(width, style, weight)
 }
@@ -136,28 +145,29 @@ fn from_head(head: &[u8]) -> Attributes
     Attributes::new(FontWidth::NORMAL, style, weight)
 }
 
-// As `read_attributes`, of a font whose directory fits.
-fn attributes_in(font: &[u8]) -> Attributes
-    requires { ⌜ directoryFits (now font) ≡ true ⌝ }
-    ensures { λ r. ⌜ r ≡ readAttributes (now (font .entry)) ⌝ }
+// As `read_attributes`, of a font whose directory, at `start`, fits.
+fn attributes_in(file: &[u8], start: usize) -> Attributes
+    requires { ⌜ directoryFits (now file) start ≡ true ⌝ }
+    ensures { λ r. ⌜ r ≡ readAttributes (now (file .entry)) start ⌝ }
 {
-    let os2 = tables::data_in(font, OS2, 78);
+    let os2 = tables::data_in(file, start, OS2, 78);
     if 0 < os2.len() {
-        return from_os2_post(font, os2);
+        return from_os2_post(file, start, os2);
     }
-    let head = tables::data_in(font, HEAD, 54);
+    let head = tables::data_in(file, start, HEAD, 54);
     if 0 < head.len() {
         return from_head(head);
     }
     Attributes::DEFAULT
 }
 
-// The attributes that the font states: OS/2's before `head`'s before the defaults.
-pub fn read_attributes(font: &[u8]) -> Attributes
-    ensures { λ r. ⌜ r ≡ readAttributes (now (font .entry)) ⌝ }
+// The attributes that the font of a number states: OS/2's before `head`'s before the defaults.
+pub fn read_attributes(file: &[u8], number: u16) -> Attributes
+    ensures { λ r. ⌜ r ≡ readAttributes (now (file .entry)) (fontStart (now (file .entry)) number) ⌝ }
 {
-    if tables::directory_fits(font) {
-        return attributes_in(font);
+    let start = font_start(file, number);
+    if tables::directory_fits(file, start) {
+        return attributes_in(file, start);
     }
     Attributes::DEFAULT
 }
@@ -218,18 +228,17 @@ impl FontInfo {
         },
     };
 
-    // The face of a font file, or the refusal 21, 22 or 23.
-    pub fn from_font_ref(font: &[u8]) -> Checked
-        ensures { λ r. ⌜ r ≡ fromFontRef (now (font .entry)) ⌝ }
+    // The face of the font of a number, or the refusal 21, 22, 23 or 30.
+    pub fn from_font_ref(file: &[u8], number: u16) -> Checked
+        ensures { λ r. ⌜ r ≡ fromFontRef (now (file .entry)) number ⌝ }
     {
-        if tables::directory_fits(font) {
-            match charmap::index_in(font) {
-                Charmap::Index(index) => with_index(font, index),
-                Charmap::Missing => refused(22),
-            }
-        } else {
-            refused(21)
+        if file.len() < 12 {
+            return refused(21);
         }
+        if (number as u32) < font_count(file) {
+            return font_at(file, font_start(file, number));
+        }
+        refused(30)
     }
 }
 
@@ -242,17 +251,31 @@ fn refused(refusal: u8) -> Checked
     }
 }
 
-// The face of a font file whose charmap index is known.
-fn with_index(font: &[u8], index: CharmapIndex) -> Checked
-    requires { ⌜ (directoryFits (now font) ≡ true) × (charmapIndex (now font) ≡ Charmap.Index index) ⌝ }
-    ensures { λ r. ⌜ r ≡ fromFontRef (now (font .entry)) ⌝ }
+// The face of the font whose directory begins at `start`, or the refusal 21, 22 or 23.
+fn font_at(file: &[u8], start: usize) -> Checked
+    ensures { λ r. ⌜ r ≡ checkedAt (now (file .entry)) start ⌝ }
 {
-    let fvar = tables::data_in(font, FVAR, 16);
+    if tables::directory_fits(file, start) {
+        match charmap::index_in(file, start) {
+            Charmap::Index(index) => with_index(file, start, index),
+            Charmap::Missing => refused(22),
+        }
+    } else {
+        refused(21)
+    }
+}
+
+// The face of a font whose charmap index is known.
+fn with_index(file: &[u8], start: usize, index: CharmapIndex) -> Checked
+    requires { ⌜ (directoryFits (now file) start ≡ true) × (charmapIndex (now file) start ≡ Charmap.Index index) ⌝ }
+    ensures { λ r. ⌜ r ≡ checkedAt (now (file .entry)) start ⌝ }
+{
+    let fvar = tables::data_in(file, start, FVAR, 16);
     let count = axis_count(fvar);
     if 16 < count {
         return refused(23);
     }
-    let attributes = attributes_in(font);
+    let attributes = attributes_in(file, start);
     let axes = read_axes(fvar, count);
     Checked {
         refusal: 0,
@@ -265,28 +288,41 @@ fn with_index(font: &[u8], index: CharmapIndex) -> Checked
     }
 }
 
-// 23 for a font file with over 16 axes, or 0.
-fn axes_refusal(font: &[u8]) -> u8
-    requires { ⌜ directoryFits (now font) ≡ true ⌝ }
-    ensures { λ r. ⌜ r ≡ cond (leb (axisCount (fvarOf (now (font .entry)))) 16) 0 23 ⌝ }
+// 23 for a font with over 16 axes, or 0.
+fn axes_refusal(file: &[u8], start: usize) -> u8
+    requires { ⌜ directoryFits (now file) start ≡ true ⌝ }
+    ensures { λ r. ⌜ r ≡ cond (leb (axisCount (fvarOf (now (file .entry)) start)) 16) 0 23 ⌝ }
 {
-    let fvar = tables::data_in(font, FVAR, 16);
+    let fvar = tables::data_in(file, start, FVAR, 16);
     if 16 < axis_count(fvar) { 23 } else { 0 }
 }
 
-// The number with which `from_font_ref` refuses a font file, or 0.
-pub fn font_refusal(font: &[u8]) -> u8
-    ensures { λ r. ⌜ r ≡ fontRefusal (now (font .entry)) ⌝ }
+// The number with which the font whose directory begins at `start` is refused, or 0.
+fn refusal_at(file: &[u8], start: usize) -> u8
+    ensures { λ r. ⌜ r ≡ refusalAt (now (file .entry)) start ⌝ }
 {
-    if tables::directory_fits(font) {
-        if charmap::has_index_in(font) {
-            axes_refusal(font)
+    if tables::directory_fits(file, start) {
+        if charmap::has_index_in(file, start) {
+            axes_refusal(file, start)
         } else {
             22
         }
     } else {
         21
     }
+}
+
+// The number with which `from_font_ref` refuses the font of a number, or 0.
+pub fn font_refusal(file: &[u8], number: u16) -> u8
+    ensures { λ r. ⌜ r ≡ fontRefusal (now (file .entry)) number ⌝ }
+{
+    if file.len() < 12 {
+        return 21;
+    }
+    if (number as u32) < font_count(file) {
+        return refusal_at(file, font_start(file, number));
+    }
+    30
 }
 
 // The first of `count` axis records with the tag, or the count where there is none.
@@ -305,11 +341,31 @@ fn axis_record(fvar: &[u8], count: usize, tag: u32) -> usize
     count
 }
 
-// Whether a font file gives an axis with the tag.
-pub fn states_axis(font: &[u8], tag: u32) -> bool
-    ensures { λ r. ⌜ r ≡ statesAxis (now (font .entry)) tag ⌝ }
+// Whether a font whose directory, at `start`, fits gives an axis with the tag.
+fn states_axis(file: &[u8], start: usize, tag: u32) -> bool
+    requires { ⌜ directoryFits (now file) start ≡ true ⌝ }
+    ensures { λ r. ⌜ r ≡ statesAxis (now (file .entry)) start tag ⌝ }
 {
-    let fvar = tables::table_data(font, FVAR, 16);
+    let fvar = tables::data_in(file, start, FVAR, 16);
     let count = axis_count(fvar);
     axis_record(fvar, count, tag) < count
+}
+
+// The attributes that the font of a number states, and whether it gives an axis with the tag.
+pub fn read_stated(file: &[u8], number: u16, tag: u32) -> Stated
+    ensures { λ r. ⌜ r ≡ statedAt (now (file .entry)) (fontStart (now (file .entry)) number) tag ⌝ }
+{
+    let start = font_start(file, number);
+    if tables::directory_fits(file, start) {
+        let attributes = attributes_in(file, start);
+        let has_axis = states_axis(file, start, tag);
+        return Stated {
+            attributes,
+            has_axis,
+        };
+    }
+    Stated {
+        attributes: Attributes::DEFAULT,
+        has_axis: false,
+    }
 }

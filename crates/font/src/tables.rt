@@ -1,4 +1,4 @@
-// The table directory of an OpenType font, and big-endian fields.
+// The table directory of an OpenType font, which begins at `start` in its file, and big-endian fields.
 ghost use mathlib.Core.Path.{_≡_};
 ghost use mathlib.Core.Bool.{true};
 ghost use Prim.Native.Nat.{_+_, _*_, _≤_};
@@ -65,30 +65,33 @@ fn starts_as_font(version: u32) -> bool
     version == 0x7472_7565
 }
 
-// Whether the font starts as one and its directory lies in the file.
-pub(crate) fn directory_fits(font: &[u8]) -> bool
-    ensures { λ r. ⌜ r ≡ directoryFits (now (font .entry)) ⌝ }
+// Whether a font starts at `start` and its directory lies in the file.
+pub(crate) fn directory_fits(file: &[u8], start: usize) -> bool
+    ensures { λ r. ⌜ r ≡ directoryFits (now (file .entry)) start ⌝ }
 {
-    if font.len() < 12 {
+    if file.len() < 12 {
         return false;
     }
-    if starts_as_font(u32_at(font, 0)) {
-        let count = u16_at(font, 4) as usize;
-        12 + 16 * count <= font.len()
+    if file.len() - 12 < start {
+        return false;
+    }
+    if starts_as_font(u32_in(file, start)) {
+        let count = u16_in(file, start + 4) as usize;
+        start + 12 + 16 * count <= file.len()
     } else {
         false
     }
 }
 
 // The number of the first record with the tag, or the count of records where there is none; of a font whose directory fits.
-fn first_record(font: &[u8], tag: u32) -> usize
-    requires { ⌜ directoryFits (now font) ≡ true ⌝ }
-    ensures { λ r. ⌜ r ≡ firstRecord (now (font .entry)) tag ⌝ }
+fn first_record(file: &[u8], start: usize, tag: u32) -> usize
+    requires { ⌜ directoryFits (now file) start ≡ true ⌝ }
+    ensures { λ r. ⌜ r ≡ firstRecord (now (file .entry)) start tag ⌝ }
 {
-    let count = u16_in(font, 4) as usize;
+    let count = u16_in(file, start + 4) as usize;
     let mut i: usize = 0;
     while i < count {
-        if u32_in(font, 12 + 16 * i) == tag {
+        if u32_in(file, start + 12 + 16 * i) == tag {
             return i;
         }
         i += 1;
@@ -97,50 +100,40 @@ fn first_record(font: &[u8], tag: u32) -> usize
 }
 
 // The table of a record that lies in the file, if the table does too and has at least `least` bytes.
-fn table_of_record(font: &[u8], least: usize, i: usize) -> Table
-    requires { ⌜ 28 + 16 * i ≤ length (now font) ⌝ }
-    ensures { λ r. ⌜ r ≡ tableOfRecord (now (font .entry)) least i ⌝ }
+fn table_of_record(file: &[u8], start: usize, least: usize, i: usize) -> Table
+    requires { ⌜ start + 28 + 16 * i ≤ length (now file) ⌝ }
+    ensures { λ r. ⌜ r ≡ tableOfRecord (now (file .entry)) start least i ⌝ }
 {
-    let offset = u32_in(font, 20 + 16 * i) as usize;
-    let length = u32_in(font, 24 + 16 * i) as usize;
+    let offset = u32_in(file, start + 20 + 16 * i) as usize;
+    let length = u32_in(file, start + 24 + 16 * i) as usize;
     if length < least {
         return Table::Absent;
     }
-    if font.len() < offset + length {
+    if file.len() < offset + length {
         return Table::Absent;
     }
     Table::Found { offset, length }
 }
 
 // The first table with the tag, if it lies in the file and has at least `least` bytes; of a font whose directory fits.
-pub(crate) fn table_in(font: &[u8], tag: u32, least: usize) -> Table
-    requires { ⌜ directoryFits (now font) ≡ true ⌝ }
-    ensures { λ r. ⌜ r ≡ findTable (now (font .entry)) tag least ⌝ }
+pub(crate) fn table_in(file: &[u8], start: usize, tag: u32, least: usize) -> Table
+    requires { ⌜ directoryFits (now file) start ≡ true ⌝ }
+    ensures { λ r. ⌜ r ≡ findTable (now (file .entry)) start tag least ⌝ }
 {
-    let i = first_record(font, tag);
-    if i < u16_in(font, 4) as usize {
-        return table_of_record(font, least, i);
+    let i = first_record(file, start, tag);
+    if i < u16_in(file, start + 4) as usize {
+        return table_of_record(file, start, least, i);
     }
     Table::Absent
 }
 
 // The found table as that part of the file and no other; an absent one is the empty part. Of a font whose directory fits.
-pub(crate) fn data_in<'a>(font: &'a [u8], tag: u32, least: usize) -> &'a [u8]
-    requires { ⌜ directoryFits (now font) ≡ true ⌝ }
-    ensures { λ r. ⌜ now r ≡ tableData (now (font .entry)) tag least ⌝ }
+pub(crate) fn data_in<'a>(file: &'a [u8], start: usize, tag: u32, least: usize) -> &'a [u8]
+    requires { ⌜ directoryFits (now file) start ≡ true ⌝ }
+    ensures { λ r. ⌜ now r ≡ tableData (now (file .entry)) start tag least ⌝ }
 {
-    match table_in(font, tag, least) {
-        Table::Found { offset, length } => &font[offset..offset + length],
-        Table::Absent => &font[0..0],
+    match table_in(file, start, tag, least) {
+        Table::Found { offset, length } => &file[offset..offset + length],
+        Table::Absent => &file[0..0],
     }
-}
-
-// The found table as that part of the file and no other; an absent one is the empty part.
-pub(crate) fn table_data<'a>(font: &'a [u8], tag: u32, least: usize) -> &'a [u8]
-    ensures { λ r. ⌜ now r ≡ tableData (now (font .entry)) tag least ⌝ }
-{
-    if directory_fits(font) {
-        return data_in(font, tag, least);
-    }
-    &font[0..0]
 }

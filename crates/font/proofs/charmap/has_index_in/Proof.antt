@@ -13,7 +13,7 @@ has-class-requires : tie.Need-has-class-requires
 has-class-requires c κs = search needs
 
 returns : tie.Need-returns
-returns c = rw (c .before .data-in .ensures) at (c .has-class .ensures) ∙ sym (font-has _)
+returns c = rw (c .before .data-in .ensures) at (c .has-class .ensures) ∙ sym (font-has _ _)
 
 pub has-index-in-spec : {M : Type 1} → statement M
 has-index-in-spec = tie.close (tie.spec data-in-requires has-class-requires returns)

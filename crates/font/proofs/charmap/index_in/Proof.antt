@@ -18,7 +18,7 @@ enum-known-offset : tie.Need-enum-known-offset
 enum-known-offset c = search needs
 
 add-index-of : tie.Need-add-index-of
-add-index-of c = omega (arith, within _ _ _ _ _ (sym (c .before .before .before .table-in .ensures) ∙ c .before .offset .given .1) .inside)
+add-index-of c = omega (arith, within _ _ _ _ _ _ (sym (c .before .before .before .table-in .ensures) ∙ c .before .offset .given .1) .inside)
 
 sub-index-of : tie.Need-sub-index-of
 sub-index-of c = search needs
@@ -27,10 +27,10 @@ part-index-of-start : tie.Need-part-index-of-start
 part-index-of-start c = search needs
 
 part-index-of-end : tie.Need-part-index-of-end
-part-index-of-end c = within _ _ _ _ _ (sym (c .before .before .before .table-in .ensures) ∙ c .before .offset .given .1) .inside
+part-index-of-end c = within _ _ _ _ _ _ (sym (c .before .before .before .table-in .ensures) ∙ c .before .offset .given .1) .inside
 
 index-of-requires : tie.Need-index-of-requires
-index-of-requires c κs = let w = within _ _ _ _ _ (sym (c .before .before .before .before .table-in .ensures) ∙ c .before .before .offset .given .1) in
+index-of-requires c κs = let w = within _ _ _ _ _ _ (sym (c .before .before .before .before .table-in .ensures) ∙ c .before .before .offset .given .1) in
     (omega (arith, w .inside, c .before .before .before .before .before .before .good), simp (add-sub-cancel-left, length-take, length-drop) (omega (arith, w .inside, w .enough)))
 
 enum-told : tie.Need-enum-told

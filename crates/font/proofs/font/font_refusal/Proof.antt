@@ -1,34 +1,41 @@
--- `font::font::font_refusal` meets its contract: each answer is that of the tests that led to it.
+-- `font::font::font_refusal` meets its contract.
 -- Assumes nothing.
-use mathlib.Core.Path.{sym, _∙_}
+use mathlib.Core.Path.{sym}
+use borrow.Author.Tests.{le-leb, lt-leb, lt-ltb, le-ltb}
+use Rattle.font.specs.Collection.{headerFits}
 use Rattle.font.specs.Font.{fontRefusal}
 use borrow.Author.Needs.{needs}
 use Rattle.font.proofs.font.font_refusal.Statement.{statement}
 use Rattle.font.proofs.font.font_refusal.Tie as tie
 
-directory-fits-requires : tie.Need-directory-fits-requires
-directory-fits-requires c κs = search needs
-
-has-index-in-requires : tie.Need-has-index-in-requires
-has-index-in-requires c κs = sym (c .before .directory-fits .ensures) ∙ c .if1 .taken
-
-axes-refusal-requires : tie.Need-axes-refusal-requires
-axes-refusal-requires c κs = sym (c .before .before .before .directory-fits .ensures) ∙ c .before .before .if1 .taken
-
 returns : tie.Need-returns
-unfolding fontRefusal
-returns c = simp
-    (sym (c .before .before .before .before .directory-fits .ensures), c .before .before .before .if1 .taken, sym (c .before .before .has-index-in .ensures), c .before .if2 .taken, sym (c .axes-refusal .ensures))
+unfolding fontRefusal headerFits
+returns c = simp (lt-leb _ _ (c .if1 .taken))
+
+font-count-requires : tie.Need-font-count-requires
+font-count-requires c κs = search needs
+
+font-start-requires : tie.Need-font-start-requires
+font-start-requires c κs = search needs
+
+refusal-at-requires : tie.Need-refusal-at-requires
+refusal-at-requires c κs = search needs
 
 returns-2 : tie.Need-returns-2
-unfolding fontRefusal
-returns-2 c = simp (sym (c .before .before .before .directory-fits .ensures), c .before .before .if1 .taken, sym (c .before .has-index-in .ensures), c .if2 .left)
+unfolding fontRefusal headerFits
+returns-2 c = simp (le-leb _ _ (c .before .before .before .before .if1 .left), sym (c .before .before .before .font-count .ensures), lt-ltb _ _ (c .before .before .if2 .taken), sym (c .before .font-start .ensures), sym (c .refusal-at .ensures))
 
 returns-3 : tie.Need-returns-3
-unfolding fontRefusal
-returns-3 c = simp (sym (c .before .directory-fits .ensures), c .if1 .left)
+unfolding fontRefusal headerFits
+returns-3 c = simp (le-leb _ _ (c .before .before .if1 .left), sym (c .before .font-count .ensures), le-ltb _ _ (c .if2 .left))
 
 pub font-refusal-spec : {M : Type 1} → statement M
 font-refusal-spec =
     tie.close
-    (tie.spec directory-fits-requires has-index-in-requires axes-refusal-requires returns returns-2 returns-3)
+    (tie.spec
+    returns
+    font-count-requires
+    font-start-requires
+    refusal-at-requires
+    returns-2
+    returns-3)

@@ -6,8 +6,8 @@ use borrow.Author.Needs.{needs}
 use Rattle.font.proofs.font.states_axis.Statement.{statement}
 use Rattle.font.proofs.font.states_axis.Tie as tie
 
-table-data-requires : tie.Need-table-data-requires
-table-data-requires c κs = search needs
+data-in-requires : tie.Need-data-in-requires
+data-in-requires c κs = search needs
 
 axis-count-requires : tie.Need-axis-count-requires
 axis-count-requires c κs = search needs
@@ -17,8 +17,8 @@ axis-record-requires c κs = search needs
 
 returns : tie.Need-returns
 unfolding statesAxis fvarOf
-returns c = simp (sym (c .before .before .table-data .ensures), sym (c .before .axis-count .ensures .0), sym (c .axis-record .ensures))
+returns c = simp (sym (c .before .before .data-in .ensures), sym (c .before .axis-count .ensures .0), sym (c .axis-record .ensures))
 
 pub states-axis-spec : {M : Type 1} → statement M
 states-axis-spec =
-    tie.close (tie.spec table-data-requires axis-count-requires axis-record-requires returns)
+    tie.close (tie.spec data-in-requires axis-count-requires axis-record-requires returns)

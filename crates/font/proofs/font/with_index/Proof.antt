@@ -2,7 +2,7 @@
 -- Assumes nothing.
 use mathlib.Core.Path.{sym}
 use borrow.Author.Tests.{le-leb, lt-leb}
-use Rattle.font.specs.Font.{fvarOf, hasIndex, indexOr, faceOf, fontRefusal, fromFontRef}
+use Rattle.font.specs.Font.{fvarOf, hasIndex, indexOr, faceOf, refusalAt, checkedBy, checkedAt}
 use borrow.Author.Needs.{needs}
 use Rattle.font.proofs.font.with_index.Statement.{statement}
 use Rattle.font.proofs.font.with_index.Tie as tie
@@ -17,7 +17,7 @@ refused-requires : tie.Need-refused-requires
 refused-requires c κs = search needs
 
 returns : tie.Need-returns
-unfolding fromFontRef fontRefusal hasIndex fvarOf
+unfolding checkedAt checkedBy refusalAt hasIndex fvarOf
 returns c = simp
     (c .before .before .before .before .before .pre .0, c .before .before .before .before .before .pre .1, sym (c .before .before .before .data-in .ensures), sym (c .before .before .axis-count .ensures .0), lt-leb _ _ (c .before .if1 .taken), sym (c .refused .ensures))
 
@@ -28,7 +28,7 @@ read-axes-requires : tie.Need-read-axes-requires
 read-axes-requires c κs = search needs
 
 returns-2 : tie.Need-returns-2
-unfolding fromFontRef fontRefusal faceOf hasIndex indexOr fvarOf
+unfolding checkedAt checkedBy refusalAt faceOf hasIndex indexOr fvarOf
 returns-2 c = simp
     (c .before .before .before .before .before .before .pre .0, c .before .before .before .before .before .before .pre .1, sym (c .before .before .before .before .data-in .ensures), sym (c .before .before .before .axis-count .ensures .0), le-leb _ _ (c .before .before .if1 .left), sym (c .before .attributes-in .ensures), sym (c .read-axes .ensures))
 

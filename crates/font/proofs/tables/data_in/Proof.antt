@@ -14,7 +14,7 @@ enum-known-offset : tie.Need-enum-known-offset
 enum-known-offset c = search needs
 
 add-result : tie.Need-add-result
-add-result c = omega (arith, within _ _ _ _ _ (sym (c .before .before .before .table-in .ensures) ∙ c .before .offset .given .1) .inside)
+add-result c = omega (arith, within _ _ _ _ _ _ (sym (c .before .before .before .table-in .ensures) ∙ c .before .offset .given .1) .inside)
 
 sub-result : tie.Need-sub-result
 sub-result c = search needs
@@ -23,7 +23,7 @@ part-result-start : tie.Need-part-result-start
 part-result-start c = search needs
 
 part-result-end : tie.Need-part-result-end
-part-result-end c = within _ _ _ _ _ (sym (c .before .before .before .table-in .ensures) ∙ c .before .offset .given .1) .inside
+part-result-end c = within _ _ _ _ _ _ (sym (c .before .before .before .table-in .ensures) ∙ c .before .offset .given .1) .inside
 
 enum-told : tie.Need-enum-told
 enum-told c = search needs
@@ -38,10 +38,10 @@ part-result-end-2 : tie.Need-part-result-end-2
 part-result-end-2 c = search needs
 
 returns : tie.Need-returns
-returns c = found-part _ _ _ _ _ (sym (c .before .before .before .before .table-in .ensures) ∙ c .before .before .offset .given .1)
+returns c = found-part _ _ _ _ _ _ (sym (c .before .before .before .before .table-in .ensures) ∙ c .before .before .offset .given .1)
 
 returns-2 : tie.Need-returns-2
-returns-2 c = absent-part _ _ _ (sym (c .before .before .before .table-in .ensures) ∙ c .before .enum-told .given .1)
+returns-2 c = absent-part _ _ _ _ (sym (c .before .before .before .table-in .ensures) ∙ c .before .enum-told .given .1)
 
 pub data-in-spec : {M : Type 1} → statement M
 data-in-spec =

@@ -12,15 +12,18 @@ use Rattle.font.proofs.tables.table_in.Tie as tie
 first-record-requires : tie.Need-first-record-requires
 first-record-requires c κs = search needs
 
+add-u16-in : tie.Need-add-u16-in
+add-u16-in c = omega (arith, records-inside _ _ (c .before .before .pre))
+
 u16-in-requires : tie.Need-u16-in-requires
-u16-in-requires c κs = omega (arith, records-inside _ (c .before .before .pre))
+u16-in-requires c κs = omega (arith, records-inside _ _ (c .before .before .pre))
 
 cast-if1 : tie.Need-cast-if1
 cast-if1 c = search needs
 
 table-of-record-requires : tie.Need-table-of-record-requires
 unfolding recordCount
-table-of-record-requires c κs = omega (arith, records-inside _ (c .before .before .before .before .pre), c .before .u16-in .ensures)
+table-of-record-requires c κs = omega (arith, records-inside _ _ (c .before .before .before .before .pre), c .before .u16-in .ensures)
 
 returns : tie.Need-returns
 unfolding findTable recordCount
@@ -35,4 +38,4 @@ returns-2 c = simp
 
 pub table-in-spec : {M : Type 1} → statement M
 table-in-spec =
-    tie.close (tie.spec first-record-requires u16-in-requires cast-if1 table-of-record-requires returns returns-2)
+    tie.close (tie.spec first-record-requires add-u16-in u16-in-requires cast-if1 table-of-record-requires returns returns-2)

@@ -7,11 +7,14 @@ use borrow.Author.Needs.{needs}
 use Rattle.font.proofs.tables.table_of_record.Statement.{statement}
 use Rattle.font.proofs.tables.table_of_record.Tie as tie
 
+add-u32-in : tie.Need-add-u32-in
+add-u32-in c = search needs
+
 mul-u32-in : tie.Need-mul-u32-in
 mul-u32-in c = search needs
 
-add-u32-in : tie.Need-add-u32-in
-add-u32-in c = search needs
+add-u32-in-2 : tie.Need-add-u32-in-2
+add-u32-in-2 c = search needs
 
 u32-in-requires : tie.Need-u32-in-requires
 u32-in-requires c κs = search needs
@@ -19,11 +22,14 @@ u32-in-requires c κs = search needs
 cast-offset : tie.Need-cast-offset
 cast-offset c = search needs
 
+add-u32-in-3 : tie.Need-add-u32-in-3
+add-u32-in-3 c = search needs
+
 mul-u32-in-2 : tie.Need-mul-u32-in-2
 mul-u32-in-2 c = search needs
 
-add-u32-in-2 : tie.Need-add-u32-in-2
-add-u32-in-2 c = search needs
+add-u32-in-4 : tie.Need-add-u32-in-4
+add-u32-in-4 c = search needs
 
 u32-in-requires-2 : tie.Need-u32-in-requires-2
 u32-in-requires-2 c κs = search needs
@@ -52,12 +58,14 @@ pub table-of-record-spec : {M : Type 1} → statement M
 table-of-record-spec =
     tie.close
     (tie.spec
-    mul-u32-in
     add-u32-in
+    mul-u32-in
+    add-u32-in-2
     u32-in-requires
     cast-offset
+    add-u32-in-3
     mul-u32-in-2
-    add-u32-in-2
+    add-u32-in-4
     u32-in-requires-2
     cast-length
     returns
