@@ -124,17 +124,19 @@ fn print_checked(checked: Checked) {
     io::write_all(STDOUT_FILENO, b"\n");
 }
 
-// The lines of a list: for each font a 32-bit length, then the file. A font that is cut off ends the list.
+// The lines of a list: for each font a 32-bit length, the file, and the 16-bit number of the font in it. A font that is cut
+// off ends the list.
 fn print_list(list: &[u8]) {
     let mut at: usize = 0;
     while at < list.len() {
         let start = at + 4;
         let end = start + tables::u32_at(list, at) as usize;
-        if list.len() < end {
+        if list.len() < end + 2 {
             return;
         }
-        print_checked(FontInfo::from_font_ref(&list[start..end]));
-        at = end;
+        let number = tables::u16_at(list, end);
+        print_checked(FontInfo::from_font_ref(&list[start..end], number));
+        at = end + 2;
     }
 }
 

@@ -1,15 +1,15 @@
 -- A byte string is accepted exactly when it is the layout of a job within the limits, and it is read as that job, to its end.
 use Prim.Native.Nat.{ℕ, _≤_}
-use mathlib.Core.Path.{_≡_, sym, ap, _∙_, subst}
+use mathlib.Core.Path.{_≡_, refl, sym, ap, _∙_, subst}
 use mathlib.Core.List.{List, _++_, append-nil}
-use mathlib.Core.Logic.{_↔_}
+use mathlib.Core.Logic.{_↔_, _⊎_, inl, inr}
 use native.Mathlib.Omega.{arith}
 use lib.ListN.{length, drop-of-length-le}
 use lib.Seq.{drop-length}
 use borrow.Author.Tests.{le-leb, le-ltb}
 use Rattle.query.specs.declared.job.Checked.{Checked}
 use Rattle.query.specs.Sizes.{mostBytes, mostFaces, mostOverrides, mostFamilies, mostRequests}
-use Rattle.query.specs.Reader.{Refusal, overlong, pastEnd, overLimit, notHeld, badDirectory, noCharmap, manyAxes, noFace, unknown, badNumber, bytesLeft, number, got}
+use Rattle.query.specs.Reader.{Refusal, overlong, pastEnd, overLimit, notHeld, badDirectory, noCharmap, manyAxes, noFace, unknown, badNumber, bytesLeft, noFont, number, got}
 use Rattle.query.specs.Fields.{counted}
 use Rattle.query.specs.Entries.{readFace, readOverride, readFamily, readRequest}
 use Rattle.query.specs.Job.{Job, atEnd, readSections, readJob, answer, checkJob, jobOf}
@@ -127,20 +127,24 @@ accepted-exactly s B = (
   (λ h. ap checkJob (h .1) ∙ ap answer (layout-is-accepted (h .0) (h .2))),
 )
 
--- the table's rows for a job are 17 to 27
-pub number-row : (w : Refusal) → (17 ≤ number w) × (number w ≤ 27)
+-- the table's rows for a job are 17 to 27, and 30
+abbrev JobRow : ℕ → Type 0
+JobRow n = (17 ≤ n) × ((n ≤ 27) ⊎ (n ≡ 30))
+
+pub number-row : (w : Refusal) → JobRow (number w)
 unfolding number
-number-row overlong = (omega arith, omega arith)
-number-row pastEnd = (omega arith, omega arith)
-number-row overLimit = (omega arith, omega arith)
-number-row notHeld = (omega arith, omega arith)
-number-row badDirectory = (omega arith, omega arith)
-number-row noCharmap = (omega arith, omega arith)
-number-row manyAxes = (omega arith, omega arith)
-number-row noFace = (omega arith, omega arith)
-number-row unknown = (omega arith, omega arith)
-number-row badNumber = (omega arith, omega arith)
-number-row bytesLeft = (omega arith, omega arith)
+number-row overlong = (omega arith, inl (omega arith))
+number-row pastEnd = (omega arith, inl (omega arith))
+number-row overLimit = (omega arith, inl (omega arith))
+number-row notHeld = (omega arith, inl (omega arith))
+number-row badDirectory = (omega arith, inl (omega arith))
+number-row noCharmap = (omega arith, inl (omega arith))
+number-row manyAxes = (omega arith, inl (omega arith))
+number-row noFace = (omega arith, inl (omega arith))
+number-row unknown = (omega arith, inl (omega arith))
+number-row badNumber = (omega arith, inl (omega arith))
+number-row bytesLeft = (omega arith, inl (omega arith))
+number-row noFont = (omega arith, inr refl)
 
 -- no two jobs within the limits have one layout
 pub one-job : (i j : Job) → JobFits i → JobFits j → layout i ≡ layout j → i ≡ j

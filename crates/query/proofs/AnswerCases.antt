@@ -16,7 +16,6 @@ use Rattle.font.specs.declared.charmap.CharmapIndex.{CharmapIndex}
 use Rattle.font.specs.declared.font.FontInfo.{FontInfo}
 use Rattle.font.specs.Attributes.{acceptedAngle, acceptedStyle, acceptedAttributes}
 use Rattle.font.specs.Overrides.{withOverride}
-use Rattle.font.specs.Font.{fromFontRef}
 use Rattle.font.proofs.Inside.{offset-inside}
 use Rattle.matching.specs.declared.order.Request as Matching
 use Rattle.matching.specs.declared.synthesis.Synthesis.{Synthesis}
@@ -37,7 +36,7 @@ use Rattle.query.specs.Reader.{number, Got, refused, got}
 use Rattle.query.specs.Layout.{Bytes, angleOf, Every, Fits32, AngleFits, StyleFits, FaceFits, RequestFits, JobFits}
 use Rattle.query.specs.Entries.{Face, Override, Request}
 use Rattle.query.specs.Job.{Job, readJob, answer, checkJob, jobOf}
-use Rattle.query.specs.View.{View, overriddenBy, afterOverrides, entryOf, viewOf}
+use Rattle.query.specs.View.{View, overriddenBy, afterOverrides, noEntry, entryOf, statedBy, viewOf}
 use Rattle.query.specs.Offers.{offerOf, membersOf, offersOf, faceOfOffer, synthesisOfOffer, offerAt}
 use Rattle.query.specs.Values.{attributesAt, requestAt}
 use Rattle.query.specs.CallTables.{OfferedFace, LoadAnswer}
@@ -72,7 +71,7 @@ module _ (s : List ℕ) (k n : ℕ) where
       go (got j p) e = absurd (h e)
 
   module _ (j : Job) (e : ℕ) (read : readJob s ≡ got j e) where
-    called : answerCall s k n ≡ requestAnswer j k n
+    pub called : answerCall s k n ≡ requestAnswer j k n
     unfolding answerCall jobAnswer
     called = rw read
 
@@ -198,7 +197,7 @@ every-at P d h (x ∷ xs) w (suc k) = every-at P d h xs (w .1) k
 abbrev Small : CharmapIndex → Type 0
 Small index = index .«subtable_offset» < 2 ^ 32
 
-kept-index : (os : List Override) (i : ℕ) (f : FontInfo) → afterOverrides os i f .«charmap_index» ≡ f .«charmap_index»
+pub kept-index : (os : List Override) (i : ℕ) (f : FontInfo) → afterOverrides os i f .«charmap_index» ≡ f .«charmap_index»
 unfolding afterOverrides overriddenBy withOverride
 kept-index [] i f = refl
 kept-index (o ∷ os) i f = kept-index os i (cond (eqb (o .face) i) (overriddenBy o f) f) ∙ one (eqb (o .face) i)
@@ -207,7 +206,7 @@ kept-index (o ∷ os) i f = kept-index os i (cond (eqb (o .face) i) (overriddenB
     one true = refl
     one false = refl
 
-font-lengths : (fs : List Face) → Every FaceFits fs → Every (λ (f : Face). Fits32 (length (f .font))) fs
+font-lengths : (fs : List Face) → Every FaceFits fs → Every (λ (f : Face). Fits32 (length (f .font .file))) fs
 unfolding Every
 font-lengths [] w = w
 font-lengths (f ∷ fs) w = (w .0 .long, font-lengths fs (w .1))
@@ -253,14 +252,13 @@ answered-writable view r small fine Past = none-writable 1
 
 module _ (s : List ℕ) (bytes : Bytes s) where
   font-small : (j : Job) → JobFits j → (i : ℕ) → Small (viewOf j .font i .«charmap_index»)
-  unfolding viewOf entryOf
+  unfolding viewOf entryOf statedBy
   font-small j fits i =
-      let none : Face = record { held = false; font = [] } in
       omega (
         arith,
-        ap (λ (x : CharmapIndex). x .«subtable_offset») (kept-index (j .overrides) i (fromFontRef (getD (j .faces) i none .font) .font)),
-        offset-inside (getD (j .faces) i none .font),
-        every-at (λ (f : Face). Fits32 (length (f .font))) none (omega arith) (j .faces) (font-lengths (j .faces) (fits .faces .1)) i,
+        ap (λ (x : CharmapIndex). x .«subtable_offset») (kept-index (j .overrides) i (statedBy (getD (j .faces) i noEntry .font))),
+        offset-inside (getD (j .faces) i noEntry .font .file) (getD (j .faces) i noEntry .font .number),
+        every-at (λ (f : Face). Fits32 (length (f .font .file))) noEntry (omega arith) (j .faces) (font-lengths (j .faces) (fits .faces .1)) i,
       )
 
   request-writable : (j : Job) → JobFits j → (k n : ℕ) → Writable (requestAnswer j k n)

@@ -23,7 +23,7 @@ use Rattle.query.specs.Offers.{membersOf, facesOf}
 use Rattle.query.specs.Call.{withoutOffer, requestOfJob, written, unwritten, offerCall}
 use Rattle.query.specs.Demands.{Kept, Other, Chooses, familyAt, Demands}
 use Rattle.query.proofs.AcceptedJobs.{number-row, accepted-is-a-layout, layout-is-accepted}
-use Rattle.query.proofs.FirstMet.{refusal-stays, first-met}
+use Rattle.query.proofs.FirstMet.{refusal-stays, until-met, first-met}
 use Rattle.query.proofs.AnswerCases.{job-refused, no-request, call-written}
 use Rattle.query.proofs.CursorSteps.{each-number, each-call, cursor-run}
 
@@ -78,6 +78,7 @@ module _ (s : List ℕ) where
         position = p;
         read = e;
         first = first-met s w p e;
+        until = λ l. until-met s w p l (ap answer e);
         stays = stays w p (ap answer e);
         check = ap answer e;
         untouched = untouched w p (ap answer e);

@@ -7,7 +7,7 @@ use mathlib.Core.List.{List, [], _∷_}
 use native.Mathlib.Omega.{arith}
 use lib.ListN.{length, getD}
 use lib.Seq.{getD-drop}
-use lib.Dec.{T, leb}
+use lib.Dec.{T, leb, ltb}
 use lib.Ieee.{Float, nan, inf, fin, binary32, isNan, ofBits, toBits, fits}
 use lib.Ieee.Scale.{finite}
 use lib.Ieee.Bits.{ofBits-toBits, ofBits-fits, toBits-ofBits}
@@ -15,8 +15,8 @@ use borrow.Author.Tests.{le-leb, lt-ltb, eq-eqb, leb-true, ltb-true, eqb-true}
 use Rattle.font.specs.Single.{acceptedRatio}
 use Rattle.font.specs.Tables.{u16At, u32At}
 use Rattle.font.proofs.Fields.{in16, out16, in32, out32}
-use Rattle.query.specs.Reader.{Refusal, overLimit, notHeld, noFace, unknown, badNumber, got, Reader, onward, field, tested}
-use Rattle.query.specs.Fields.{byte, half, word, single, ratio, value, count, heldByte, faceNumber, mask, kind, spareByte, spareWord}
+use Rattle.query.specs.Reader.{Refusal, overLimit, notHeld, noFace, unknown, badNumber, noFont, got, Reader, onward, field, tested}
+use Rattle.query.specs.Fields.{byte, half, word, single, ratio, value, count, heldByte, faceNumber, numberBelow, mask, kind, spareByte, spareWord}
 use Rattle.query.specs.Layout.{Bytes, bytes8, bytes16, bytes32, bytesOf, Fits8, Fits16, Fits32, IsNumber, IsRatio, IsValue}
 use Rattle.query.proofs.Ends.{Read, tested-read}
 use Rattle.query.proofs.Leaves.{byteAt, singleAt, byte-read, half-read, word-read, ratio-read, value-read}
@@ -232,9 +232,18 @@ pub exact-held : Exact heldByte bytes8 (λ n. n ≤ 1)
 unfolding heldByte byte
 exact-held = exact-tested laid8 notHeld _ _ (λ s B p e. leb-true _ 1 e) (λ n w. le-leb n 1 w)
 
+-- a 16-bit number below another
+exact-below : (why : Refusal) (n : ℕ) → Exact (tested why (λ i. ltb i n) half) bytes16 (λ i. (i < n) × Fits16 i)
+unfolding half
+exact-below why n = exact-tested laid16 why _ _ (λ s B p e. (ltb-true _ n e, u16-small s B p)) (λ i w. lt-ltb i n (w .0))
+
 pub exact-face-number : (n : ℕ) → Exact (faceNumber n) bytes16 (λ i. (i < n) × Fits16 i)
-unfolding faceNumber half
-exact-face-number n = exact-tested laid16 noFace _ _ (λ s B p e. (ltb-true _ n e, u16-small s B p)) (λ i w. lt-ltb i n (w .0))
+unfolding faceNumber
+exact-face-number n = exact-below noFace n
+
+pub exact-number-below : (n : ℕ) → Exact (numberBelow n) bytes16 (λ i. (i < n) × Fits16 i)
+unfolding numberBelow
+exact-number-below n = exact-below noFont n
 
 pub exact-mask : Exact mask bytes8 (λ n. n ≤ 7)
 unfolding mask byte

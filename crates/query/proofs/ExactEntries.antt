@@ -29,7 +29,8 @@ use Rattle.query.specs.Layout.{Bytes, bytes8, bytes16, bytes32, bytesOf,
 use Rattle.query.proofs.Ends.{then-got}
 use Rattle.query.proofs.Stands.{Stands, join, split, none}
 use Rattle.query.proofs.Exact.{Stood, Exact, exact-half, exact-word, exact-ratio, exact-value, exact-held, exact-face-number, exact-mask, exact-kind, exact-spare-byte, exact-spare-word}
-use Rattle.query.proofs.ExactLists.{then-is, done-got, done-is, stood-as, exact-counted, exact-byte-counted, exact-font}
+use Rattle.query.proofs.ExactLists.{then-is, done-got, done-is, stood-as, exact-counted, exact-byte-counted}
+use Rattle.query.proofs.ExactFonts.{exact-font}
 
 false-is-not-true : {A : Type 0} → false ≡ true → A
 false-is-not-true e = absurd (let z : _≡_ {A = ℕ} 0 1 = cc in omega arith)
@@ -60,11 +61,11 @@ exact-face = record {
       stood-as layoutFace FaceFits (d .0) (d .1)
       (record {
         stands = rw (held-back (t .0) (f .within)) (join (f .stands) (g .stands));
-        within = record { long = g .within .0; taken = g .within .1 };
+        within = g .within;
       });
   complete = λ s p a q w h. let d = split (bytes8 (cond (a .held) 1 0)) (layoutFont (a .font)) h in
       then-is heldByte _ s p (cond (a .held) 1 0) _ (exact-held .complete s p _ _ (held-small (a .held)) (d .first))
-      (then-is fontFile _ s _ (a .font) q (exact-font .complete s _ (a .font) q (w .long, w .taken) (d .second))
+      (then-is fontFile _ s _ (a .font) q (exact-font .complete s _ (a .font) q w (d .second))
       (rw (held-of (a .held)) (done-is a s q)));
 }
 

@@ -8,9 +8,10 @@ use lib.Dec.{eqb}
 use lib.Ieee.{ofBits, ofInt, le, lt, eq}
 use Rattle.font.specs.Single.{single, acceptedRatio}
 use Rattle.font.specs.Tables.{u16At, u32At, directoryFits}
-use Rattle.font.specs.Font.{fontRefusal}
+use Rattle.font.specs.Collection.{isCollection, headerFits, fontCount, offsetsFit, offsetOf, fontStart}
+use Rattle.font.specs.Font.{refusalAt, fontRefusal}
 use Rattle.query.specs.Reader.{number, done, onward, _>>=_, field, tested, many}
-use Rattle.query.specs.Fields.{byte, half, word, ratio, value, count, counted, byteCounted, heldByte, faceNumber, kind, spareWord, orSpare, fontRow, fontBytes, fontTaken, fontAt, fontFile}
+use Rattle.query.specs.Fields.{byte, half, word, ratio, value, count, counted, byteCounted, heldByte, faceNumber, kind, spareWord, orSpare, fontRow, fontBytes, sizedFile, numberBelow, refusedAt, fontNumber, fontTaken, numbered, fontFile}
 use Rattle.query.specs.Fields.{single as singleField}
 use Rattle.query.specs.Entries.{readFace, styleOfKind, readAngle, readStyle, readOverride, readFamily, readRequested, readRequest}
 use Rattle.query.specs.Job.{atEnd, readSections, readJob, answer, checkJob}
@@ -31,6 +32,11 @@ request ratio kind angle =
 zero4 : List ℕ
 zero4 = replicate 4 0
 
+-- one face, a collection of 12 bytes, with the first and the last byte of its count; then the bytes after it
+collection : ℕ → ℕ → List ℕ → List ℕ
+collection high low rest =
+    0 ∷ 1 ∷ 1 ∷ 0 ∷ 0 ∷ 0 ∷ 12 ∷ 0x74 ∷ 0x74 ∷ 0x63 ∷ 0x66 ∷ 0 ∷ 1 ∷ 0 ∷ 0 ∷ high ∷ 0 ∷ 0 ∷ low ∷ rest
+
 pub cases : List Case
 cases =
     -- "eight zero bytes accepted, nine 27"
@@ -43,6 +49,18 @@ cases =
     ∷ answers (0 ∷ 1 ∷ 2 ∷ []) 20 2
     ∷ answers (0 ∷ 1 ∷ 1 ∷ 0 ∷ 0 ∷ 0 ∷ 1 ∷ []) 18 3
     ∷ answers (0 ∷ 1 ∷ 1 ∷ 0 ∷ 0 ∷ 0 ∷ 0 ∷ []) 21 3
+    -- a file of three bytes, and a collection of four: both without a header, and no number is looked for
+    ∷ answers (0 ∷ 1 ∷ 1 ∷ 0 ∷ 0 ∷ 0 ∷ 3 ∷ 0x74 ∷ 0x74 ∷ 0x63 ∷ []) 21 3
+    ∷ answers (0 ∷ 1 ∷ 1 ∷ 0 ∷ 0 ∷ 0 ∷ 4 ∷ 0x74 ∷ 0x74 ∷ 0x63 ∷ 0x66 ∷ []) 21 3
+    -- a collection of 12 bytes that states no fonts: its number is cut, then not below the count; one that states a font, but has no offset
+    ∷ answers (collection 0 0 []) 18 19
+    ∷ answers (collection 0 0 (0 ∷ [])) 18 19
+    ∷ answers (collection 0 0 (0 ∷ 0 ∷ [])) 30 19
+    ∷ answers (collection 0 1 []) 18 19
+    ∷ answers (collection 0 1 (0 ∷ 1 ∷ [])) 30 19
+    ∷ answers (collection 0 1 (0 ∷ 0 ∷ [])) 21 3
+    -- one that states 2^30, whose offsets would end where they begin if 12 + 4 * count wrapped at 2^32
+    ∷ answers (collection 0x40 0 (0 ∷ 0 ∷ [])) 21 3
     -- an override of a face that the job lacks, cut and whole
     ∷ answers (0 ∷ 0 ∷ 0 ∷ 1 ∷ 0 ∷ []) 18 4
     ∷ answers (0 ∷ 0 ∷ 0 ∷ 1 ∷ 0 ∷ 0 ∷ []) 24 4
@@ -65,5 +83,5 @@ right [] = true
 right (c ∷ cs) = eqb (checkJob (c .job) .refusal) (c .refusal) && (eqb (checkJob (c .job) .position) (c .position) && right cs)
 
 pub small-jobs : right cases ≡ true
-unfolding right cases answers request zero4 checkJob readJob answer readSections counted byteCounted count tested field byte half word u16At u32At many done _>>=_ onward atEnd number readFace heldByte fontFile fontAt fontBytes fontTaken fontRow fontRefusal directoryFits readOverride faceNumber readFamily readRequest readRequested ratio value singleField acceptedRatio single ofInt ofBits le lt eq readStyle kind orSpare spareWord readAngle styleOfKind
+unfolding right cases answers request zero4 collection checkJob readJob answer readSections counted byteCounted count tested field byte half word u16At u32At many done _>>=_ onward atEnd number readFace heldByte fontFile sizedFile fontBytes numbered fontNumber numberBelow refusedAt fontTaken fontRow fontRefusal refusalAt isCollection headerFits fontCount offsetsFit offsetOf fontStart directoryFits readOverride faceNumber readFamily readRequest readRequested ratio value singleField acceptedRatio single ofInt ofBits le lt eq readStyle kind orSpare spareWord readAngle styleOfKind
 small-jobs = refl

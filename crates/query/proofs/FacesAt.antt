@@ -1,31 +1,34 @@
 -- What the reader of a face or of an override reads is what lies at its position; and so of the numbers and styles in them.
-use Prim.Native.Nat.{ℕ, suc, _+_, _*_, _<_}
+use Prim.Native.Nat.{ℕ, suc, _+_, _*_, _-_, _≤_, _<_}
 use mathlib.Core.Path.{_≡_, refl, ap, _∙_}
 use mathlib.Core.Bool.{Bool, true, false, cond}
 use mathlib.Core.List.{List, _∷_}
 use native.Mathlib.Omega.{arith}
-use lib.Dec.{leb, eqb}
+use native.Mathlib.Nat.{add-sub-cancel-left}
+use lib.Dec.{leb, ltb, eqb}
 use lib.Ieee.{Float, binary32, ofBits}
 use lib.Ieee.Scale.{finite}
 use lib.ListN.{length, getD, take, drop}
-use borrow.Author.Tests.{ltb-true, eqb-true}
+use borrow.Author.Tests.{leb-true, ltb-true, eqb-true}
 use Rattle.font.specs.declared.attributes.Angle.the-variants.{Unstated, Degrees}
 use Rattle.font.specs.declared.attributes.FontStyle.{FontStyle}
 use Rattle.font.specs.declared.overrides.WidthOverride.the-variants as Width
 use Rattle.font.specs.declared.overrides.StyleOverride.the-variants as Style
 use Rattle.font.specs.declared.overrides.WeightOverride.the-variants as Weight
-use Rattle.font.specs.Tables.{u32At}
+use Rattle.font.specs.Tables.{u16At, u32At}
+use Rattle.font.specs.Collection.{isCollection, headerFits, fontCount}
 use Rattle.font.specs.Reading.{bit}
 use Rattle.font.specs.Font.{fontRefusal}
 use Rattle.font.proofs.FiniteBits.{accepted-finite}
+use Rattle.query.specs.declared.fields.Behind.{Behind}
 use Rattle.query.specs.declared.sections.Section.the-variants.{Faces}
-use Rattle.query.specs.Sizes.{faceHead, overrideHead, pairSize}
-use Rattle.query.specs.Reader.{Refusal, pastEnd, Reader, refused, got, done, many, _>>=_}
-use Rattle.query.specs.Fields.{byte, word, ratio, value, byteCounted, heldByte, faceNumber, mask, kind, spareByte, spareWord, orSpare, fontRow, fontBytes, fontTaken, fontAt, fontFile}
+use Rattle.query.specs.Sizes.{faceHead, fontNumberSize, overrideHead, pairSize}
+use Rattle.query.specs.Reader.{Refusal, pastEnd, badDirectory, noFont, Reader, refused, got, done, field, tested, many, _>>=_}
+use Rattle.query.specs.Fields.{byte, half, word, ratio, value, byteCounted, heldByte, faceNumber, mask, kind, spareByte, spareWord, orSpare, NumberedFont, fontRow, fontBytes, sizedFile, numberBelow, refusedAt, fontNumber, fontTaken, numbered, fontFile}
 use Rattle.query.specs.Entries.{Face, Override, readFace, readAngle, readStyle, readWidth, readWeight, styleOrSpare, readGiven, readPair, readOverride}
 use Rattle.query.specs.Positions.{LiesAt}
-use Rattle.query.specs.Values.{numberAt, styleAt, faceAt, faceEnd, givenAt, pairAt, pairsAt, overrideAt, overrideEnd}
-use Rattle.query.proofs.Ends.{Read, ReadsAt, then-got, then-at, then-read, same-got}
+use Rattle.query.specs.Values.{numberAt, styleAt, fileAt, fileEnd, numberBehind, behindNumber, behindFile, faceAt, faceEnd, givenAt, pairAt, pairsAt, overrideAt, overrideEnd}
+use Rattle.query.proofs.Ends.{Read, ReadsAt, tested-read, then-got, then-at, then-read, same-got}
 use Rattle.query.proofs.Leaves.{byte-read, word-read, ratio-read, value-read, held-read, face-number-read, mask-read, kind-read, spare-byte-read, spare-word-read, entry-starts}
 use Rattle.query.proofs.EvenEntries.{many-even}
 
@@ -107,39 +110,93 @@ bytes-at place n s p x q = go (leb (p + n) (length s))
     go true e = same-got e
     go false e = absurd (let z : _≡_ {A = ℕ} 0 1 = cc in omega arith)
 
--- a font that is taken is not refused
-taken-at : (place : ℕ) (font s : List ℕ) (p : ℕ) (x : List ℕ) (q : ℕ) → fontTaken place font s p ≡ got x q
-    → (x ≡ font) × (q ≡ p) × (fontRefusal x ≡ 0)
-unfolding fontTaken
-taken-at place font s p x q = go (eqb (fontRefusal font) 0) refl (fontRow (fontRefusal font))
+-- the file of a face as that part of the job, up to where it ends
+pub file-part : (s : List ℕ) (p end : ℕ) → end ≡ fileEnd s p → take (end - (p + faceHead)) (drop (p + faceHead) s) ≡ fileAt s p
+unfolding fileAt
+file-part s p end e = rw (e, add-sub-cancel-left (p + faceHead) (u32At s (p + 1)))
+
+-- the number behind it
+pub number-there : (s file : List ℕ) (p : ℕ) {end : ℕ} {b : Behind} → b ≡ behindFile s end file → end ≡ fileEnd s p → b .number ≡ numberBehind s (fileEnd s p) file
+number-there s file p e l = ap (λ (b : Behind). b .number) e ∙ ap (λ (q : ℕ). numberBehind s q file) l
+
+-- where the face ends
+pub part-end : (s : List ℕ) (p end : ℕ) → end ≡ fileEnd s p → behindNumber (take (end - (p + faceHead)) (drop (p + faceHead) s)) end ≡ faceEnd s p
+part-end s p end e = ap (λ (f : List ℕ). behindNumber f end) (file-part s p end e) ∙ ap (behindNumber (fileAt s p)) e
+
+-- a font's length and bytes
+pub sized-at : (s : List ℕ) (p next : ℕ) → p + 4 ≡ next → ReadsAt sizedFile s p (take (u32At s p) (drop next s)) (next + u32At s p)
+unfolding sizedFile
+sized-at s p next same x q e =
+    let n = then-read word _ next (word-read s p) same e in
+    bytes-at p (u32At s p) s next x q n
+
+pub sized-in : (s : List ℕ) (p : ℕ) (x : List ℕ) (q : ℕ) → sizedFile s p ≡ got x q → (q ≡ p + 4 + u32At s p) × (q ≤ length s)
+unfolding sizedFile fontBytes
+sized-in s p x q e =
+    let n = then-read word _ (p + 4) (word-read s p) refl e in
+    go (leb (p + 4 + u32At s p) (length s)) refl n
   where
-    go : (b : Bool) → eqb (fontRefusal font) 0 ≡ b → (w : Refusal) → cond b (got font p) (refused w place) ≡ got x q
-        → (x ≡ font) × (q ≡ p) × (fontRefusal x ≡ 0)
+    go : (b : Bool) → leb (p + 4 + u32At s p) (length s) ≡ b
+        → cond b (got (take (u32At s p) (drop (p + 4) s)) (p + 4 + u32At s p)) (refused pastEnd p) ≡ got x q → (q ≡ p + 4 + u32At s p) × (q ≤ length s)
+    go true l r = let is = same-got r in (is .1, omega (arith, is .1, leb-true (p + 4 + u32At s p) (length s) l))
+    go false l r = absurd (let z : _≡_ {A = ℕ} 0 1 = cc in omega arith)
+
+-- the number behind a file, and that it is one of the file's fonts
+pub number-at : (place : ℕ) (file s : List ℕ) (p i q : ℕ) → fontNumber place file s p ≡ got i q
+    → (i ≡ numberBehind s p file) × (q ≡ behindNumber file p) × (i < fontCount file)
+unfolding fontNumber numberBelow refusedAt half done numberBehind behindNumber fontCount
+number-at place file s p i q = go (isCollection file) (headerFits file)
+  where
+    go : (a b : Bool)
+        → cond a (cond b (tested noFont (λ k. ltb k (cond a (u32At file 8) 1)) (field 2 u16At)) (refusedAt badDirectory place)) (done 0) s p ≡ got i q
+        → (i ≡ cond a (u16At s p) 0) × (q ≡ cond a (p + fontNumberSize) p) × (i < cond a (u32At file 8) 1)
+    go true true e =
+        let r = tested-read noFont (λ k. ltb k (u32At file 8)) 2 u16At s p i q e in
+        (r .value, r .next, ltb-true i (u32At file 8) (r .passed))
+    go true false e = absurd (let z : _≡_ {A = ℕ} 0 1 = cc in omega arith)
+    go false b e = let is = same-got e in (is .0, is .1, omega (arith, is .0))
+
+-- a font that is taken is not refused
+taken-at : (place : ℕ) (font : NumberedFont) (s : List ℕ) (p : ℕ) (x : NumberedFont) (q : ℕ) → fontTaken place font s p ≡ got x q
+    → (x ≡ font) × (q ≡ p) × (fontRefusal (x .file) (x .number) ≡ 0)
+unfolding fontTaken
+taken-at place font s p x q = go (eqb (fontRefusal (font .file) (font .number)) 0) refl (fontRow (fontRefusal (font .file) (font .number)))
+  where
+    go : (b : Bool) → eqb (fontRefusal (font .file) (font .number)) 0 ≡ b → (w : Refusal) → cond b (got font p) (refused w place) ≡ got x q
+        → (x ≡ font) × (q ≡ p) × (fontRefusal (x .file) (x .number) ≡ 0)
     go true t w e =
         let same : x ≡ font = cc in
-        (same, cc, rw same (eqb-true (fontRefusal font) 0 t))
+        (same, cc, rw same (eqb-true (fontRefusal (font .file) (font .number)) 0 t))
     go false t w e = absurd (let z : _≡_ {A = ℕ} 0 1 = cc in omega arith)
 
-file-at : (s : List ℕ) (p next : ℕ) (x : List ℕ) (q : ℕ) → p + 4 ≡ next → fontFile s p ≡ got x q
-    → (x ≡ take (u32At s p) (drop next s)) × (q ≡ next + u32At s p) × (fontRefusal x ≡ 0)
-unfolding fontFile fontAt
-file-at s p next x q same e =
-    let n = then-read word _ next (word-read s p) same e in
-    let bytes = then-at (fontBytes p (u32At s p)) _ (next + u32At s p) (bytes-at p (u32At s p) s next) refl n in
-    taken-at p _ s (next + u32At s p) x q bytes
+font-at : (s : List ℕ) (p next : ℕ) (x : NumberedFont) (q : ℕ) → p + 4 ≡ next → fontFile s p ≡ got x q
+    → let file = take (u32At s p) (drop next s) in
+    (x ≡ record { file = file; number = numberBehind s (next + u32At s p) file }) × (q ≡ behindNumber file (next + u32At s p)) × (fontRefusal (x .file) (x .number) ≡ 0)
+    × (next + u32At s p ≤ length s)
+unfolding fontFile numbered
+font-at s p next x q same e =
+    let file = take (u32At s p) (drop next s) in
+    let first = then-got sizedFile (numbered p) s p x q e in
+    let size = sized-in s p (first .0) (first .1) (first .2) in
+    let sized = then-at sizedFile (numbered p) (next + u32At s p) (sized-at s p next same) refl e in
+    let number = then-got (fontNumber p file) _ s (next + u32At s p) x q sized in
+    let is = number-at p file s (next + u32At s p) (number .0) (number .1) (number .2) in
+    let taken = taken-at p _ s (number .1) x q (number .3) in
+    (taken .0 ∙ ap (λ (i : ℕ). record { file = file; number = i }) (is .0), taken .1 ∙ is .1, taken .2, omega (arith, size .0, size .1, same))
 
 pub face-at : (s : List ℕ) (p : ℕ) (f : Face) (q : ℕ) → readFace s p ≡ got f q
-    → (f ≡ faceAt s p) × (q ≡ faceEnd s p) × (fontRefusal (f .font) ≡ 0) × (p < length s)
-unfolding readFace done faceAt
+    → (f ≡ faceAt s p) × (q ≡ faceEnd s p) × (fontRefusal (f .font .file) (f .font .number) ≡ 0) × (p < length s) × (fileEnd s p ≤ length s)
+unfolding readFace done faceAt fileAt
 face-at s p f q e =
     let held = then-read heldByte _ (p + 1) (held-read s p) refl e in
-    let file = then-got fontFile _ s (p + 1) f q held in
-    let font = file-at s (p + 1) (p + faceHead) (file .0) (file .1) (omega arith) (file .2) in
-    let is = same-got {a = record { held = eqb (getD s p 0) 1; font = file .0 }} (file .3) in (
-      is .0 ∙ (λ k. record { held = eqb (getD s p 0) 1; font = font .0 k }),
+    let read = then-got fontFile _ s (p + 1) f q held in
+    let font = font-at s (p + 1) (p + faceHead) (read .0) (read .1) (omega arith) (read .2) in
+    let is = same-got {a = record { held = eqb (getD s p 0) 1; font = read .0 }} (read .3) in (
+      is .0 ∙ ap (λ (x : NumberedFont). record { held = eqb (getD s p 0) 1; font = x }) (font .0),
       is .1 ∙ font .1,
       rw (is .0) (font .2),
       entry-starts Faces s p f q e,
+      font .3,
     )
 
 pub next-face : (m : ℕ) (s : List ℕ) (place : ℕ) (fs : List Face) → LiesAt (many (suc m) readFace) s place fs

@@ -3,19 +3,21 @@
 use Prim.Native.Nat.{ℕ, _≤_, _<_}
 use mathlib.Core.Path.{_≡_, refl, sym, ap, _∙_, subst}
 use mathlib.Core.Bool.{Bool, true, false, cond}
-use mathlib.Core.List.{List, [], _++_}
+use mathlib.Core.List.{List, [], _∷_, _++_, append-nil}
 use mathlib.Core.Logic.{_⊎_, inl, inr, ⊎-elim}
 use native.Mathlib.Omega.{arith}
 use lib.ListN.{length, take, drop, length-append, length-take, take-append-drop}
 use lib.Dec.{leb, ltb, eqb}
-use borrow.Author.Tests.{le-leb, le-ltb, lt-ltb, leb-true, ltb-true}
+use borrow.Author.Tests.{le-leb, le-ltb, lt-ltb, leb-true, ltb-true, ltb-false, eqb-true, eqb-false}
 use Rattle.query.specs.declared.fields.At.{At}
 use Rattle.query.specs.Sizes.{mostBytes}
 use Rattle.query.specs.Reader.{Refusal, overlong, pastEnd, bytesLeft, number, Got, refused, got, Reader, onward, _>>=_, field, tested, ended}
 use Rattle.query.specs.Fields.{half, count, counted}
 use Rattle.query.specs.Job.{Job, atEnd, readSections, readJob, answer, checkJob, jobOf}
-use Rattle.query.specs.Demands.{cutBefore}
-use Rattle.query.proofs.Readings.{place, Goes, Kept, Back, Lacked, Stays, stays-then, Reads, reads-counted, reads-face, reads-override, reads-family, reads-request}
+use Rattle.query.specs.declared.job.Checked.{Checked}
+use Rattle.query.specs.Demands.{cutBefore, Until, lacking, met, whole}
+use Rattle.query.proofs.Readings.{place, Goes, Kept, Back, Lacked, Stays, stays-then, Reads, never}
+use Rattle.query.proofs.EntryReadings.{reads-counted, reads-face, reads-override, reads-family, reads-request}
 use Rattle.query.proofs.AcceptedJobs.{number-row}
 use Rattle.query.proofs.Checks.{accepted, job-read, sections-read}
 
@@ -37,9 +39,9 @@ Met p n x (refused w q) = (p ≤ q) × (q ≡ n → ended x ≡ CutAt w n)
 record Ends {A : Type 0} (r : Reader A) : Type 0 where
   refuses : (s u : List ℕ) (p : ℕ) → KeptRefusal (r s p) (r (s ++ u) p)
   meets : (s u : List ℕ) (p : ℕ) → Met p (length s) (r s p) (r (s ++ u) p)
-  within : Stays r
+  within : Stays never r
 
-ends-then : {A B : Type 0} {r : Reader A} {k : A → Reader B} → Reads r → ((a : A) → Ends (k a)) → Ends (r >>= k)
+ends-then : {A B : Type 0} {r : Reader A} {k : A → Reader B} → Reads never r → ((a : A) → Ends (k a)) → Ends (r >>= k)
 unfolding _>>=_ onward Goes Kept Back KeptRefusal Lacked Met CutAt ended number
 ends-then {A} {B} {r} {k} f g =
     record {
@@ -57,9 +59,9 @@ ends-then {A} {B} {r} {k} f g =
     last s p x a q l c (got b t) d = tt
     last s p x a q l c (refused w t) d = (omega (arith, d .0), λ e. rw (c (omega (arith, d .0, e))) (d .1 e))
 
-    meet : (s u : List ℕ) (p : ℕ) (x y : Got A) → Goes p y → Back (length s) x y → Lacked p (length s) x y
+    meet : (s u : List ℕ) (p : ℕ) (x y : Got A) → Goes p y → Back (length s) x y → Lacked never p (length s) x y
         → Met p (length s) (onward x (λ a q. k a s q)) (onward y (λ a q. k a (s ++ u) q))
-    meet s u p x (refused w q) l c d = (d .1, λ e. rw (d .2 e, d .0) refl)
+    meet s u p x (refused w q) l c d = ⊎-elim (λ z. absurd z) (λ m. (m .0, λ e. rw (m .1 e, d .0) refl)) (d .1)
     meet s u p x (got a q) l c d = last s p x a q l c (k a (s ++ u) q) (g a .meets s u q)
 
 ends-at-end : {A : Type 0} (a : A) → Ends (atEnd a)
@@ -68,7 +70,7 @@ ends-at-end {A} a =
     record {
       refuses = λ s u p. keep s u p (ltb p (length s)) refl;
       meets = λ s u p. meet s p (ltb p (length (s ++ u)));
-      within = record { stays = λ s p h. inside s p h (ltb p (length s)) };
+      within = record { stays = λ s p i h. inside s p h (ltb p (length s)) };
     }
   where
     end : ℕ → Bool → Got A
@@ -100,6 +102,15 @@ sections-end =
 
 -- ---- the check call
 
+-- an accepted job is answered 0 and 0
+unrefused : (s : List ℕ) → checkJob s .refusal ≡ 0 → checkJob s ≡ record { refusal = 0; position = 0 }
+unfolding checkJob answer
+unrefused s z = let a = accepted s z in ap answer (a .1)
+
+empty : (b : List ℕ) → length b ≤ 0 → b ≡ []
+empty [] l = refl
+empty (x ∷ b) l = absurd (omega arith)
+
 -- its position is in the job, or just past it, and so at most the longest job's length
 answer-in : (s : List ℕ) (g : Got Job) → place g ≤ length s → answer g .position ≤ length s
 unfolding answer place
@@ -114,7 +125,7 @@ position-in-job s = limit (leb (length s) mostBytes) refl
         → (answer (cond b (readSections s 0) (refused overlong 0)) .position ≤ length s)
         × (answer (cond b (readSections s 0) (refused overlong 0)) .position ≤ mostBytes)
     limit true e =
-        let h = answer-in s (readSections s 0) (sections-end .within .stays s 0 (omega arith)) in
+        let h = answer-in s (readSections s 0) (sections-end .within .stays s 0 (λ q z. absurd z) (omega arith)) in
         (h, omega (arith, leb-true (length s) mostBytes e))
     limit false e = (omega arith, omega arith)
 
@@ -140,7 +151,7 @@ ends-there : (s : List ℕ) (j : Job) (q : ℕ) → readSections s 0 ≡ got j q
 unfolding place
 ends-there s j q h =
     let low : length s ≤ q = sections-read s j q h .last in
-    let high : q ≤ length s = subst (λ g. place g ≤ length s) h (sections-end .within .stays s 0 (omega arith)) in
+    let high : q ≤ length s = subst (λ g. place g ≤ length s) h (sections-end .within .stays s 0 (λ q z. absurd z) (omega arith)) in
     omega arith
 
 -- bytes that follow an accepted job are 27, at the first of them
@@ -159,6 +170,46 @@ bytes-after-are-27 s u l m z =
     (λ e. absurd (let more : a .0 ≡ length (s ++ u) = ends-there (s ++ u) (jobOf s) (a .0) e in omega (arith, length-append s u)))
     (λ e. ap answer e ∙ ap (λ (n : ℕ). record { refusal = 27; position = n }) end)
     kept
+
+-- ---- as bytes come in
+
+-- cut off after any of its bytes a job lacks a field, or has the whole job's refusal already, or is accepted before bytes left
+pub until-met : (s : List ℕ) (w : Refusal) (p : ℕ) → length s ≤ mostBytes → checkJob s ≡ record { refusal = number w; position = p } → (n : ℕ) → Until s w n
+until-met s w p l e n = go (eqb (checkJob a .refusal) 18) (eqb (checkJob a .refusal) 0) refl refl
+  where
+    a : List ℕ
+    a = take n s
+
+    b : List ℕ
+    b = drop n s
+
+    all : a ++ b ≡ s
+    all = take-append-drop n s
+
+    long : length (a ++ b) ≤ mostBytes
+    long = rw all l
+
+    row : checkJob s .refusal ≡ number w
+    row = ap (λ (c : Checked). c .refusal) e
+
+    same : length b ≤ 0 → a ≡ s
+    same m = sym (append-nil a) ∙ ap (λ (x : List ℕ). a ++ x) (sym (empty b m)) ∙ all
+
+    -- accepted, and so the whole unless bytes are left
+    accepted-so : checkJob a .refusal ≡ 0 → Until s w n
+    accepted-so z = last (ltb 0 (length b)) refl
+      where
+        last : (c : Bool) → ltb 0 (length b) ≡ c → Until s w n
+        last true m =
+            let after = bytes-after-are-27 a b long (ltb-true 0 (length b) m) z in
+            whole (sym row ∙ ap (λ (x : List ℕ). checkJob x .refusal) (sym all) ∙ ap (λ (c : Checked). c .refusal) after) (unrefused a z)
+        last false m = met (ap checkJob (same (ltb-false 0 (length b) m)))
+
+    go : (x y : Bool) → eqb (checkJob a .refusal) 18 ≡ x → eqb (checkJob a .refusal) 0 ≡ y → Until s w n
+    go true y f g = lacking (eqb-true (checkJob a .refusal) 18 f)
+    go false true f g = accepted-so (eqb-true (checkJob a .refusal) 0 g)
+    go false false f g =
+        met (sym (refusal-stays a b long (eqb-false (checkJob a .refusal) 0 g) (eqb-false (checkJob a .refusal) 18 f)) ∙ ap checkJob all)
 
 -- ---- the field first met
 
@@ -194,7 +245,7 @@ first-met s w p = go (leb (length s) mostBytes) refl
     go : (b : Bool) → leb (length s) mostBytes ≡ b → cond b (readSections s 0) (refused overlong 0) ≡ refused w p → checkJob (take p s) ≡ cutBefore w p
     go true t e =
         let a = take p s in
-        let inside : p ≤ length s = subst (λ (g : Got Job). place g ≤ length s) e (sections-end .within .stays s 0 (omega arith)) in
+        let inside : p ≤ length s = subst (λ (g : Got Job). place g ≤ length s) e (sections-end .within .stays s 0 (λ q z. absurd z) (omega arith)) in
         let long : length a ≡ p = omega (arith, length-take p s) in
         let whole : readSections (a ++ drop p s) 0 ≡ refused w p = ap (λ (z : List ℕ). readSections z 0) (take-append-drop p s) ∙ e in
         let met = subst (Met 0 (length a) (readSections a 0)) whole (sections-end .meets a (drop p s) 0) in

@@ -9,7 +9,7 @@ use borrow.Author.Tests.{leb-true}
 use Rattle.font.specs.declared.attributes.Attributes.{Attributes}
 use Rattle.font.specs.declared.font.FontInfo.{FontInfo}
 use Rattle.font.specs.Tables.{u16At}
-use Rattle.font.specs.Font.{fontRefusal, fromFontRef, statesAxis}
+use Rattle.font.specs.Font.{fontRefusal}
 use Rattle.font.proofs.FaceOf.{attributes-of-face}
 use Rattle.matching.specs.Matching.{hasAxis, slnt}
 use Rattle.matching.specs.Rows.{rowOf}
@@ -18,14 +18,14 @@ use Rattle.query.specs.declared.job.Checked.{Checked}
 use Rattle.query.specs.declared.job.Walked.{Walked}
 use Rattle.query.specs.Sizes.{mostBytes, mostFaces, mostOverrides, mostFamilies}
 use Rattle.query.specs.Reader.{Reader, Got, refused, got, many}
-use Rattle.query.specs.Fields.{count, counted}
+use Rattle.query.specs.Fields.{NumberedFont, count, counted}
 use Rattle.query.specs.Entries.{Face, Override, Family, readFace, readOverride, readFamily}
 use Rattle.query.specs.Job.{Job, readJob, checkJob, jobIn, jobOf}
 use Rattle.query.specs.Positions.{LiesAt, WalkAnswer}
 use Rattle.query.specs.Values.{faceAt}
-use Rattle.query.specs.View.{afterOverrides, entryOf, viewOf}
+use Rattle.query.specs.View.{afterOverrides, entryOf, statedBy, viewOf}
 use Rattle.query.specs.Offers.{membersOf}
-use Rattle.query.specs.CallTables.{marks, rowAt, rowsAfter, nowhere, FacesLie, EntryRow, RowsAt, RowsOverridden, RowIn, FamilyIn, Room, LoadAnswer}
+use Rattle.query.specs.CallTables.{marks, attributesIn, axisIn, rowAt, rowsAfter, nowhere, FacesLie, EntryRow, RowsAt, RowsOverridden, RowIn, FamilyIn, Room, LoadAnswer}
 use Rattle.query.proofs.Ends.{then-got}
 use Rattle.query.proofs.Leaves.{count-read, counted-length}
 use Rattle.query.proofs.Checks.{accepted, job-read, sections-read}
@@ -123,7 +123,7 @@ module _ {s : List ℕ} {w : Walked} {before families : List ℕ} {asked : ℕ} 
           overridden .are (length (jobOf s .faces)) (jobOf s .overrides) (omega (arith, faces .long)) (rw number (section .entries))
 
       row-in : (i : ℕ) → i < length (jobOf s .faces) → RowIn s (viewOf (jobOf s)) i (getD after i [])
-      unfolding rowAt viewOf
+      unfolding attributesIn rowAt statedBy viewOf
       row-in i l =
           record {
             entry = p;
@@ -140,32 +140,32 @@ module _ {s : List ℕ} {w : Walked} {before families : List ℕ} {asked : ℕ} 
           p : ℕ
           p = there .entry
 
-          file : List ℕ
-          file = faceAt s p .font
+          font : NumberedFont
+          font = faceAt s p .font
 
           os : List Override
           os = jobOf s .overrides
 
           f : FontInfo
-          f = fromFontRef file .font
+          f = statedBy font
 
-          taken : fontRefusal file ≡ 0
-          taken = ap (λ (x : Face). fontRefusal (x .font)) (there .face-is) ∙ there .taken
+          taken : fontRefusal (font .file) (font .number) ≡ 0
+          taken = ap (λ (x : Face). fontRefusal (x .font .file) (x .font .number)) (there .face-is) ∙ there .taken
 
           -- before the overrides
-          stated : getD rows i [] ≡ rowOf (f .attributes) (marks p (faceAt s p .held) (statesAxis file slnt))
+          stated : getD rows i [] ≡ rowOf (f .attributes) (marks p (faceAt s p .held) (axisIn font slnt))
           stated =
               there .is
-              ∙ ap (λ (a : Attributes). rowOf a (marks p (faceAt s p .held) (statesAxis file slnt))) (attributes-of-face file taken)
+              ∙ ap (λ (a : Attributes). rowOf a (marks p (faceAt s p .held) (axisIn font slnt))) (attributes-of-face (font .file) (font .number) taken)
 
-          slant : statesAxis file slnt ≡ hasAxis (afterOverrides os i f) slnt
-          slant = stated-axis file slnt taken ∙ sym (after-axis os i f slnt)
+          slant : axisIn font slnt ≡ hasAxis (afterOverrides os i f) slnt
+          slant = stated-axis font slnt taken ∙ sym (after-axis os i f slnt)
 
           -- the row of the face i by its entry
           seen : Face → List ℕ
           seen x =
-              rowOf (afterOverrides os i (fromFontRef (x .font) .font) .attributes)
-              (marks p (x .held) (hasAxis (afterOverrides os i (fromFontRef (x .font) .font)) slnt))
+              rowOf (afterOverrides os i (statedBy (x .font)) .attributes)
+              (marks p (x .held) (hasAxis (afterOverrides os i (statedBy (x .font))) slnt))
 
       -- ---- the families
 

@@ -12,10 +12,13 @@ pub mod WalkCases
 pub mod Stands
 pub mod Exact
 pub mod ExactLists
+pub mod ExactFonts
 pub mod ExactEntries
 pub mod AcceptedJobs
 -- First met, reading left to right.
 pub mod Readings
+pub mod EntryReadings
+pub mod InTurn
 pub mod FirstMet
 pub mod Examples
 -- The offers' bytes.
@@ -45,3 +48,5 @@ pub mod NamedFaces
 pub mod AnswerCases
 pub mod CursorSteps
 pub mod Demands
+-- As for a lone font with the same tables.
+pub mod LoneFonts

@@ -6,14 +6,13 @@ use mathlib.Core.List.{List, []}
 use native.Mathlib.Omega.{arith}
 use lib.ListN.{length, getD, length-map}
 use Rattle.font.specs.declared.font.FontInfo.{FontInfo}
-use Rattle.font.specs.Font.{fromFontRef}
 use Rattle.font.specs.Tables.{u16At}
 use Rattle.matching.specs.Rows.{rowOf}
 use Rattle.query.specs.declared.answer.Offer.{Offer}
 use Rattle.query.specs.Sizes.{mostFamilies}
 use Rattle.query.specs.Entries.{Face, Family}
 use Rattle.query.specs.Job.{jobOf}
-use Rattle.query.specs.View.{View, afterOverrides, viewOf}
+use Rattle.query.specs.View.{View, afterOverrides, statedBy, viewOf}
 use Rattle.query.specs.Offers.{membersOf, faceOfOffer}
 use Rattle.query.specs.Values.{faceAt}
 use Rattle.query.specs.CallTables.{marks, OfferedFace, TablesOf, RowIn, FamilyIn}
@@ -66,5 +65,5 @@ module _ {s : List ℕ} {rows : List (List ℕ)} {families : List ℕ} (loaded :
       unfolding viewOf faceOfOffer
       face-named lies offered =
           offered .is (length (jobOf s .faces)) (jobOf s .overrides) lies
-          ∙ ap (λ (f : Face). afterOverrides (jobOf s .overrides) i (fromFontRef (f .font) .font)) (ap (faceAt s) entry-is ∙ row .face)
+          ∙ ap (λ (f : Face). afterOverrides (jobOf s .overrides) i (statedBy (f .font))) (ap (faceAt s) entry-is ∙ row .face)
           ∙ ap (view .font) number-is

@@ -13,17 +13,18 @@ use Rattle.font.specs.declared.font.FontInfo.{FontInfo}
 use Rattle.font.specs.declared.overrides.FontInfoOverride.{FontInfoOverride}
 use Rattle.font.specs.First.{tabulate}
 use Rattle.font.specs.Tables.{u32At}
-use Rattle.font.specs.Font.{fontRefusal, fromFontRef, statesAxis}
+use Rattle.font.specs.Font.{fontRefusal}
 use Rattle.font.specs.Overrides.{overridden, axisOf, firstAxis, pairCount, setDefaults, withAxes, withDefaults, withOverride}
 use Rattle.font.proofs.Defaults.{withPair, one-more-pair, same-axis}
 use Rattle.font.proofs.FaceOf.{few-axes, stated}
 use Rattle.font.proofs.Tabulated.{length-is, element}
 use Rattle.matching.specs.Matching.{axisAt, axisCount, axisPlace, hasAxis}
+use Rattle.query.specs.Fields.{NumberedFont}
 use Rattle.query.specs.Entries.{Pair, Override}
-use Rattle.query.specs.View.{overriddenBy, afterOverrides}
+use Rattle.query.specs.View.{overriddenBy, afterOverrides, statedBy}
 use Rattle.query.specs.Sizes.{overrideHead, pairSize}
 use Rattle.query.specs.Values.{numberAt, givenAt, pairAt, pairsAt, overrideAt}
-use Rattle.query.specs.CallTables.{afterPairs}
+use Rattle.query.specs.CallTables.{axisIn, afterPairs}
 use Rattle.query.proofs.EvenEntries.{map-tabulate}
 
 -- the tags and the values of an override's pairs
@@ -123,9 +124,10 @@ after-axis [] i f tag = refl
 after-axis (o ∷ os) i f tag = after-axis os i (afterOne o i f) tag ∙ kept-axis (eqb (o .face) i) o f tag
 
 -- the axes that a font file states are those of its face
-pub stated-axis : (font : List ℕ) (tag : ℕ) → fontRefusal font ≡ 0 → statesAxis font tag ≡ hasAxis (fromFontRef font .font) tag
+pub stated-axis : (font : NumberedFont) (tag : ℕ) → fontRefusal (font .file) (font .number) ≡ 0 → axisIn font tag ≡ hasAxis (statedBy font) tag
+unfolding axisIn statedBy
 stated-axis font tag z =
-    let f = fromFontRef font .font in
-    let few = few-axes font in
+    let f = statedBy font in
+    let few = few-axes (font .file) (font .number) in
     let all : f .«axis_count» ≡ min (f .«axis_count») 16 = omega arith in
-    stated font tag z ∙ ap (λ (n : ℕ). ltb (firstAxis (f .axes) n tag) n) all ∙ sym (among f tag)
+    stated (font .file) (font .number) tag z ∙ ap (λ (n : ℕ). ltb (firstAxis (f .axes) n tag) n) all ∙ sym (among f tag)

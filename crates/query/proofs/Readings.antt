@@ -6,17 +6,14 @@ use mathlib.Core.Bool.{Bool, true, false, cond}
 use mathlib.Core.List.{List, [], _∷_, _++_}
 use mathlib.Core.Logic.{_⊎_, inl, inr, ⊎-elim}
 use native.Mathlib.Omega.{arith}
-use lib.ListN.{length, getD, take, drop, length-append, length-drop, List·getD-append}
-use lib.Seq.{take-append-le, drop-append-le}
+use lib.ListN.{length, getD, length-append, List·getD-append}
 use lib.Dec.{leb, eqb}
 use lib.Ieee.{binary32, ofBits}
 use borrow.Author.Tests.{le-leb, lt-leb, leb-true}
 use Rattle.font.specs.Tables.{u16At, u32At}
-use Rattle.font.specs.Font.{fontRefusal}
 use Rattle.font.proofs.Fields.{in16, in32}
-use Rattle.query.specs.Reader.{Refusal, pastEnd, overLimit, notHeld, badDirectory, noCharmap, manyAxes, noFace, unknown, badNumber, number, Got, refused, got, Reader, done, onward, _>>=_, field, tested, many}
-use Rattle.query.specs.Fields.{byte, half, word, single, ratio, value, count, counted, byteCounted, heldByte, faceNumber, mask, kind, spareByte, spareWord, orSpare, fontRow, fontBytes, fontTaken, fontAt, fontFile}
-use Rattle.query.specs.Entries.{readFace, readAngle, readStyle, readWidth, readWeight, styleOrSpare, readGiven, readPair, readOverride, readFamily, readRequested, readRequest}
+use Rattle.query.specs.Reader.{Refusal, pastEnd, noFace, unknown, badNumber, number, Got, refused, got, Reader, done, onward, _>>=_, field, tested, many}
+use Rattle.query.specs.Fields.{byte, half, word, single, ratio, value, faceNumber, spareWord}
 
 -- the position of the refusal, or the next one
 unfoldable pub place : {A : Type 0} → Got A → ℕ
@@ -45,11 +42,11 @@ pub record Passes {A : Type 0} (r : Reader A) : Type 0 where
   pub kept : (s u : List ℕ) (p : ℕ) → Kept (r s p) (r (s ++ u) p)
   pub back : (s u : List ℕ) (p : ℕ) → Back (length s) (r s p) (r (s ++ u) p)
 
-passes-done : {A : Type 0} (a : A) → Passes (done a)
+pub passes-done : {A : Type 0} (a : A) → Passes (done a)
 unfolding done Goes Kept Back
 passes-done a = record { goes = λ s p. omega arith; kept = λ s u p. refl; back = λ s u p l. refl }
 
-passes-then : {A B : Type 0} {r : Reader A} {k : A → Reader B} → Passes r → ((a : A) → Passes (k a)) → Passes (r >>= k)
+pub passes-then : {A B : Type 0} {r : Reader A} {k : A → Reader B} → Passes r → ((a : A) → Passes (k a)) → Passes (r >>= k)
 unfolding _>>=_ onward Goes Kept Back
 passes-then {A} {B} {r} {k} f g =
     record {
@@ -107,7 +104,7 @@ passes-field {A} n v f =
     again s u p true = λ l. simp (le-leb (p + n) (length s) l, f s u p l)
     again s u p false = tt
 
-passes-tested : {A : Type 0} (why : Refusal) (ok : A → Bool) {r : Reader A} → Passes r → Passes (tested why ok r)
+pub passes-tested : {A : Type 0} (why : Refusal) (ok : A → Bool) {r : Reader A} → Passes r → Passes (tested why ok r)
 unfolding tested onward Goes Kept Back
 passes-tested {A} why ok {r} f =
     record {
@@ -146,58 +143,64 @@ passes-tested {A} why ok {r} f =
 
 -- ---- what a reading says of the field that it refuses
 
--- Of n bytes of a job that is refused at q, from p on: 27 is no row of a field; and where they end at q, all that they lack is the field there.
-unfoldable pub Lacked : {A : Type 0} → ℕ → ℕ → Got A → Got A → Type 0
-Lacked p n x (got a q) = Unit {0}
-Lacked p n x (refused w q) = (eqb (number w) 27 ≡ false) × (p ≤ q) × (q ≡ n → x ≡ refused pastEnd n)
+-- Of n bytes of a job that is refused at q, from p on: 27 is no row of a field; and where they end at q, all that they lack is the field there. But for places that are
+-- said to be early: a font is refused at its length field after its number was read.
+unfoldable pub Lacked : {A : Type 0} → (ℕ → Type 0) → ℕ → ℕ → Got A → Got A → Type 0
+Lacked early p n x (got a q) = Unit {0}
+Lacked early p n x (refused w q) = (eqb (number w) 27 ≡ false) × (early q ⊎ ((p ≤ q) × (q ≡ n → x ≡ refused pastEnd n)))
 
-pub record Lacks {A : Type 0} (r : Reader A) : Type 0 where
-  pub lacks : (s u : List ℕ) (p : ℕ) → Lacked p (length s) (r s p) (r (s ++ u) p)
+pub record Lacks {A : Type 0} (early : ℕ → Type 0) (r : Reader A) : Type 0 where
+  pub lacks : (s u : List ℕ) (p : ℕ) → Lacked early p (length s) (r s p) (r (s ++ u) p)
 
-lacks-done : {A : Type 0} (a : A) → Lacks (done a)
+lacks-done : {A : Type 0} {early : ℕ → Type 0} (a : A) → Lacks early (done a)
 unfolding done Lacked
 lacks-done a = record { lacks = λ s u p. tt }
 
-lacks-then : {A B : Type 0} {r : Reader A} {k : A → Reader B} → Passes r → Lacks r → ((a : A) → Lacks (k a)) → Lacks (r >>= k)
+lacks-then : {A B : Type 0} {early : ℕ → Type 0} {r : Reader A} {k : A → Reader B} → Passes r → Lacks early r → ((a : A) → Lacks early (k a)) → Lacks early (r >>= k)
 unfolding _>>=_ onward Goes Back Lacked
-lacks-then {A} {B} {r} {k} h f g =
+lacks-then {A} {B} {early} {r} {k} h f g =
     record { lacks = λ s u p. go s u p (r s p) (r (s ++ u) p) (h .goes (s ++ u) p) (h .back s u p) (f .lacks s u p) }
   where
-    last : (s : List ℕ) (p : ℕ) (x : Got A) (a : A) (q : ℕ) → p ≤ q → (q ≤ length s → x ≡ got a q) → (y : Got B) → Lacked q (length s) (k a s q) y
-        → Lacked p (length s) (onward x (λ a q. k a s q)) y
+    last : (s : List ℕ) (p : ℕ) (x : Got A) (a : A) (q : ℕ) → p ≤ q → (q ≤ length s → x ≡ got a q) → (y : Got B) → Lacked early q (length s) (k a s q) y
+        → Lacked early p (length s) (onward x (λ a q. k a s q)) y
     last s p x a q l c (got b t) d = tt
-    last s p x a q l c (refused w t) d = (d .0, omega (arith, d .1), λ e. rw (c (omega (arith, d .1, e))) (d .2 e))
+    last s p x a q l c (refused w t) d =
+        (d .0, ⊎-elim (λ e. inl e) (λ m. inr (omega (arith, m .0), λ e. rw (c (omega (arith, m .0, e))) (m .1 e))) (d .1))
 
-    go : (s u : List ℕ) (p : ℕ) (x y : Got A) → Goes p y → Back (length s) x y → Lacked p (length s) x y
-        → Lacked p (length s) (onward x (λ a q. k a s q)) (onward y (λ a q. k a (s ++ u) q))
-    go s u p x (refused w q) l c d = (d .0, d .1, λ e. rw (d .2 e) refl)
+    go : (s u : List ℕ) (p : ℕ) (x y : Got A) → Goes p y → Back (length s) x y → Lacked early p (length s) x y
+        → Lacked early p (length s) (onward x (λ a q. k a s q)) (onward y (λ a q. k a (s ++ u) q))
+    go s u p x (refused w q) l c d = (d .0, ⊎-elim (λ e. inl e) (λ m. inr (m .0, λ e. rw (m .1 e) refl)) (d .1))
     go s u p x (got a q) l c d = last s p x a q l c (k a (s ++ u) q) (g a .lacks s u q)
 
--- ---- a reading stays in the job
+-- ---- a reading stays in the job, if what is early does
 
-pub record Stays {A : Type 0} (r : Reader A) : Type 0 where
-  pub stays : (s : List ℕ) (p : ℕ) → p ≤ length s → place (r s p) ≤ length s
+pub record Stays {A : Type 0} (early : ℕ → Type 0) (r : Reader A) : Type 0 where
+  pub stays : (s : List ℕ) (p : ℕ) → ((q : ℕ) → early q → q ≤ length s) → p ≤ length s → place (r s p) ≤ length s
 
-pub stays-then : {A B : Type 0} {r : Reader A} {k : A → Reader B} → Stays r → ((a : A) → Stays (k a)) → Stays (r >>= k)
+pub stays-then : {A B : Type 0} {early : ℕ → Type 0} {r : Reader A} {k : A → Reader B} → Stays early r → ((a : A) → Stays early (k a)) → Stays early (r >>= k)
 unfolding _>>=_ onward place
-stays-then {A} {B} {r} {k} f g = record { stays = λ s p h. go s (r s p) (f .stays s p h) }
+stays-then {A} {B} {early} {r} {k} f g = record { stays = λ s p i h. go s i (r s p) (f .stays s p i h) }
   where
-    go : (s : List ℕ) (x : Got A) → place x ≤ length s → place (onward x (λ a q. k a s q)) ≤ length s
-    go s (refused w q) l = l
-    go s (got a q) l = g a .stays s q l
+    go : (s : List ℕ) → ((q : ℕ) → early q → q ≤ length s) → (x : Got A) → place x ≤ length s → place (onward x (λ a q. k a s q)) ≤ length s
+    go s i (refused w q) l = l
+    go s i (got a q) l = g a .stays s q i l
 
 -- ---- the three together
 
-pub record Reads {A : Type 0} (r : Reader A) : Type 0 where
+pub record Reads {A : Type 0} (early : ℕ → Type 0) (r : Reader A) : Type 0 where
   pub passes : Passes r
-  pub lacks : Lacks r
-  pub within : Stays r
+  pub lacks : Lacks early r
+  pub within : Stays early r
 
-reads-done : {A : Type 0} (a : A) → Reads (done a)
+-- entries have no early places
+abbrev pub never : ℕ → Type 0
+never q = ⊥
+
+pub reads-done : {A : Type 0} {early : ℕ → Type 0} (a : A) → Reads early (done a)
 unfolding done place
-reads-done a = record { passes = passes-done a; lacks = lacks-done a; within = record { stays = λ s p h. h } }
+reads-done a = record { passes = passes-done a; lacks = lacks-done a; within = record { stays = λ s p i h. h } }
 
-reads-then : {A B : Type 0} {r : Reader A} {k : A → Reader B} → Reads r → ((a : A) → Reads (k a)) → Reads (r >>= k)
+pub reads-then : {A B : Type 0} {early : ℕ → Type 0} {r : Reader A} {k : A → Reader B} → Reads early r → ((a : A) → Reads early (k a)) → Reads early (r >>= k)
 reads-then f g =
     record {
       passes = passes-then (f .passes) (λ a. g a .passes);
@@ -205,41 +208,41 @@ reads-then f g =
       within = stays-then (f .within) (λ a. g a .within);
     }
 
-reads-many : {A : Type 0} (n : ℕ) {r : Reader A} → Reads r → Reads (many n r)
+pub reads-many : {A : Type 0} {early : ℕ → Type 0} (n : ℕ) {r : Reader A} → Reads early r → Reads early (many n r)
 unfolding many
 reads-many zero f = reads-done []
 reads-many (suc n) f = reads-then f (λ a. reads-then (reads-many n f) (λ rest. reads-done (a ∷ rest)))
 
 -- ---- one field: it is refused at its own position, and where no byte is left it is past the end
 
-OfField : {A : Type 0} → ℕ → ℕ → Got A → Type 0
+unfoldable pub OfField : {A : Type 0} → ℕ → ℕ → Got A → Type 0
 OfField p n (got a q) = q ≤ n
 OfField p n (refused w q) = (q ≡ p) × (eqb (number w) 27 ≡ false)
 
-record Field {A : Type 0} (r : Reader A) : Type 0 where
-  passes : Passes r
-  ends : (s : List ℕ) (p : ℕ) → OfField p (length s) (r s p)
-  starts : (s : List ℕ) → r s (length s) ≡ refused pastEnd (length s)
+pub record Field {A : Type 0} (r : Reader A) : Type 0 where
+  pub passes : Passes r
+  pub ends : (s : List ℕ) (p : ℕ) → OfField p (length s) (r s p)
+  pub starts : (s : List ℕ) → r s (length s) ≡ refused pastEnd (length s)
 
-reads-field : {A : Type 0} {r : Reader A} → Field r → Reads r
+pub reads-field : {A : Type 0} {early : ℕ → Type 0} {r : Reader A} → Field r → Reads early r
 unfolding Lacked OfField place
-reads-field {A} {r} f =
+reads-field {A} {early} {r} f =
     record {
       passes = f .passes;
       lacks = record { lacks = λ s u p. lack s p (length (s ++ u)) (r (s ++ u) p) (f .ends (s ++ u) p) };
-      within = record { stays = λ s p l. inside s p l (r s p) (f .ends s p) };
+      within = record { stays = λ s p i l. inside s p l (r s p) (f .ends s p) };
     }
   where
-    lack : (s : List ℕ) (p n : ℕ) (y : Got A) → OfField p n y → Lacked p (length s) (r s p) y
+    lack : (s : List ℕ) (p n : ℕ) (y : Got A) → OfField p n y → Lacked early p (length s) (r s p) y
     lack s p n (got a q) d = tt
     lack s p n (refused w q) d =
-        (d .1, omega (arith, d .0), λ e. let at : p ≡ length s = sym (d .0) ∙ e in ap (r s) at ∙ f .starts s)
+        (d .1, inr (omega (arith, d .0), λ e. let at : p ≡ length s = sym (d .0) ∙ e in ap (r s) at ∙ f .starts s))
 
     inside : (s : List ℕ) (p : ℕ) → p ≤ length s → (x : Got A) → OfField p (length s) x → place x ≤ length s
     inside s p l (got a q) d = d
     inside s p l (refused w q) d = omega (arith, d .0)
 
-bytes-field : {A : Type 0} (n : ℕ) (v : List ℕ → ℕ → A) → 0 < n → ((s u : List ℕ) (p : ℕ) → p + n ≤ length s → v (s ++ u) p ≡ v s p) → Field (field n v)
+pub bytes-field : {A : Type 0} (n : ℕ) (v : List ℕ → ℕ → A) → 0 < n → ((s u : List ℕ) (p : ℕ) → p + n ≤ length s → v (s ++ u) p ≡ v s p) → Field (field n v)
 unfolding field OfField number
 bytes-field n v some f =
     record {
@@ -252,7 +255,7 @@ bytes-field n v some f =
     go s p true e = leb-true (p + n) (length s) e
     go s p false e = (refl, refl)
 
-tested-field : {A : Type 0} (why : Refusal) (ok : A → Bool) → eqb (number why) 27 ≡ false → {r : Reader A} → Field r → Field (tested why ok r)
+pub tested-field : {A : Type 0} (why : Refusal) (ok : A → Bool) → eqb (number why) 27 ≡ false → {r : Reader A} → Field r → Field (tested why ok r)
 unfolding tested onward OfField
 tested-field {A} why ok row {r} f =
     record {
@@ -284,15 +287,15 @@ word-kept s u p h =
     ∙ (rw (half-kept s u p (omega arith), half-kept s u (p + 2) (omega arith)) refl))
     ∙ in32 s p h
 
-byte-field : Field byte
+pub byte-field : Field byte
 unfolding byte
 byte-field = bytes-field 1 (λ s p. getD s p 0) (omega arith) byte-kept
 
-half-field : Field half
+pub half-field : Field half
 unfolding half
 half-field = bytes-field 2 u16At (omega arith) half-kept
 
-word-field : Field word
+pub word-field : Field word
 unfolding word
 word-field = bytes-field 4 u32At (omega arith) word-kept
 
@@ -300,167 +303,18 @@ single-field : Field single
 unfolding single
 single-field = bytes-field 4 (λ s p. ofBits binary32 (u32At s p)) (omega arith) (λ s u p h. ap (ofBits binary32) (word-kept s u p h))
 
-ratio-field : Field ratio
+pub ratio-field : Field ratio
 unfolding ratio number
 ratio-field = tested-field badNumber _ refl single-field
 
-value-field : Field value
+pub value-field : Field value
 unfolding value number
 value-field = tested-field badNumber _ refl single-field
 
-spare-word-field : Field spareWord
+pub spare-word-field : Field spareWord
 unfolding spareWord number
 spare-word-field = tested-field unknown _ refl word-field
 
-face-number-field : (n : ℕ) → Field (faceNumber n)
+pub face-number-field : (n : ℕ) → Field (faceNumber n)
 unfolding faceNumber number
 face-number-field n = tested-field noFace _ refl half-field
-
--- a font file is one field: its refusals are at the length
-passes-font-bytes : (at n : ℕ) → Passes (fontBytes at n)
-unfolding fontBytes Goes Kept Back
-passes-font-bytes at n =
-    record {
-      goes = λ s p. on s p (leb (p + n) (length s));
-      kept = λ s u p. keep s u p (leb (p + n) (length s)) refl;
-      back = λ s u p. again s u p (leb (p + n) (length (s ++ u)));
-    }
-  where
-    on : (s : List ℕ) (p : ℕ) (b : Bool) → Goes p (cond b (got (take n (drop p s)) (p + n)) (refused pastEnd at))
-    on s p true = omega arith
-    on s p false = tt
-
-    part : (s u : List ℕ) (p : ℕ) → p + n ≤ length s → take n (drop p (s ++ u)) ≡ take n (drop p s)
-    part s u p h =
-        ap (λ (z : List ℕ). take n z) (drop-append-le p s u (omega arith)) ∙ take-append-le n (drop p s) u (rw (length-drop p s) (omega arith))
-
-    keep : (s u : List ℕ) (p : ℕ) (b : Bool) → leb (p + n) (length s) ≡ b
-        → Kept (cond b (got (take n (drop p s)) (p + n)) (refused pastEnd at)) (fontBytes at n (s ++ u) p)
-    keep s u p true e =
-        let h : p + n ≤ length s = leb-true (p + n) (length s) e in
-        simp (le-leb (p + n) (length (s ++ u)) (omega (arith, length-append s u)), part s u p h)
-    keep s u p false e = inl refl
-
-    again : (s u : List ℕ) (p : ℕ) (b : Bool) → Back (length s) (fontBytes at n s p) (cond b (got (take n (drop p (s ++ u))) (p + n)) (refused pastEnd at))
-    again s u p true = λ l. simp (le-leb (p + n) (length s) l, part s u p l)
-    again s u p false = tt
-
-passes-font-taken : (at : ℕ) (font : List ℕ) → Passes (fontTaken at font)
-unfolding fontTaken Goes Kept Back
-passes-font-taken at font =
-    record {
-      goes = λ s p. on p (eqb (fontRefusal font) 0);
-      kept = λ s u p. keep p (eqb (fontRefusal font) 0) (fontRow (fontRefusal font));
-      back = λ s u p. again (length s) p (eqb (fontRefusal font) 0);
-    }
-  where
-    on : (p : ℕ) (b : Bool) → Goes p (cond b (got font p) (refused (fontRow (fontRefusal font)) at))
-    on p true = omega arith
-    on p false = tt
-
-    keep : (p : ℕ) (b : Bool) (w : Refusal) → Kept (cond b (got font p) (refused w at)) (cond b (got font p) (refused w at))
-    keep p true w = refl
-    keep p false w = inr refl
-
-    again : (n p : ℕ) (b : Bool)
-        → Back n (cond b (got font p) (refused (fontRow (fontRefusal font)) at)) (cond b (got font p) (refused (fontRow (fontRefusal font)) at))
-    again n p true = λ l. refl
-    again n p false = tt
-
-font-file-passes : (at : ℕ) → Passes (fontAt at)
-unfolding fontAt
-font-file-passes at = passes-then (word-field .passes) (λ n. passes-then (passes-font-bytes at n) (λ f. passes-font-taken at f))
-
-font-row : (n : ℕ) → eqb (number (fontRow n)) 27 ≡ false
-unfolding fontRow number
-font-row n = go (eqb n 21) (eqb n 22)
-  where
-    go : (b c : Bool) → eqb (number (cond b badDirectory (cond c noCharmap manyAxes))) 27 ≡ false
-    go true c = refl
-    go false true = refl
-    go false false = refl
-
-font-field : Field fontFile
-unfolding fontFile fontAt fontBytes fontTaken _>>=_ onward OfField number
-font-field =
-    record {
-      passes = record { goes = λ s p. font-file-passes p .goes s p; kept = λ s u p. font-file-passes p .kept s u p; back = λ s u p. font-file-passes p .back s u p };
-      ends = ends;
-      starts = starts;
-    }
-  where
-    starts : (s : List ℕ) → fontAt (length s) s (length s) ≡ refused pastEnd (length s)
-    starts s = rw (word-field .starts s) refl
-
-    ends : (s : List ℕ) (p : ℕ) → OfField p (length s) (fontAt p s p)
-    ends s p = first (word s p) (word-field .ends s p)
-      where
-        last : (b : Bool) (f : List ℕ) (q : ℕ) → q ≤ length s → OfField p (length s) (cond b (got f q) (refused (fontRow (fontRefusal f)) p))
-        last true f q l = l
-        last false f q l = (refl, font-row (fontRefusal f))
-
-        second : (n q : ℕ) (b : Bool) → leb (q + n) (length s) ≡ b
-            → OfField p (length s) (onward (cond b (got (take n (drop q s)) (q + n)) (refused pastEnd p)) (λ f t. fontTaken p f s t))
-        second n q true e = last (eqb (fontRefusal (take n (drop q s))) 0) (take n (drop q s)) (q + n) (leb-true (q + n) (length s) e)
-        second n q false e = (refl, refl)
-
-        first : (x : Got ℕ) → OfField p (length s) x → OfField p (length s) (onward x (λ n q. onward (fontBytes p n s q) (λ f t. fontTaken p f s t)))
-        first (refused w q) d = d
-        first (got n q) d = second n q (leb (q + n) (length s)) refl
-
--- ---- lists and entries
-
-pub reads-counted : {A : Type 0} (limit : ℕ) {r : Reader A} → Reads r → Reads (counted limit r)
-unfolding counted count number
-reads-counted limit f = reads-then (reads-field (tested-field overLimit _ refl half-field)) (λ n. reads-many n f)
-
-reads-byte-counted : {A : Type 0} {r : Reader A} → Reads r → Reads (byteCounted r)
-unfolding byteCounted
-reads-byte-counted f = reads-then (reads-field byte-field) (λ n. reads-many n f)
-
-reads-or-spare : {A : Type 0} (b : Bool) (none : A) {r : Reader A} → Reads r → Reads (orSpare b none r)
-unfolding orSpare
-reads-or-spare true none f = f
-reads-or-spare false none f = reads-then (reads-field spare-word-field) (λ x. reads-done none)
-
-pub reads-face : Reads readFace
-unfolding readFace heldByte number
-reads-face = reads-then (reads-field (tested-field notHeld _ refl byte-field)) (λ h. reads-then (reads-field font-field) (λ f. reads-done _))
-
-reads-style : Reads readStyle
-unfolding readStyle readAngle kind number
-reads-style =
-    reads-then (reads-field (tested-field unknown _ refl byte-field))
-    (λ k. reads-then (reads-or-spare _ _ (reads-then (reads-field value-field) (λ x. reads-done _))) (λ a. reads-done _))
-
-reads-style-or-spare : (b : Bool) → Reads (styleOrSpare b)
-unfolding styleOrSpare spareByte number
-reads-style-or-spare true = reads-then reads-style (λ x. reads-done _)
-reads-style-or-spare false =
-    reads-then (reads-field (tested-field unknown _ refl byte-field)) (λ k. reads-then (reads-field spare-word-field) (λ a. reads-done _))
-
-reads-given : (m : ℕ) → Reads (readGiven m)
-unfolding readGiven readWidth readWeight
-reads-given m =
-    reads-then (reads-or-spare _ _ (reads-then (reads-field ratio-field) (λ x. reads-done _)))
-    (λ w. reads-then (reads-style-or-spare _)
-    (λ t. reads-then (reads-or-spare _ _ (reads-then (reads-field value-field) (λ x. reads-done _))) (λ g. reads-done _)))
-
-pub reads-override : (n : ℕ) → Reads (readOverride n)
-unfolding readOverride mask readPair number
-reads-override n =
-    reads-then (reads-field (face-number-field n))
-    (λ f. reads-then (reads-field (tested-field unknown _ refl byte-field))
-    (λ m. reads-then (reads-given m)
-    (λ g. reads-then (reads-byte-counted (reads-then (reads-field word-field) (λ t. reads-then (reads-field value-field) (λ x. reads-done _)))) (λ ps. reads-done _))))
-
-pub reads-family : (n : ℕ) → Reads (readFamily n)
-unfolding readFamily
-reads-family n = reads-then (reads-counted _ (reads-field (face-number-field n))) (λ m. reads-done _)
-
-pub reads-request : Reads readRequest
-unfolding readRequest readRequested
-reads-request =
-    reads-then (reads-field half-field)
-    (λ m. reads-then (reads-then (reads-field ratio-field) (λ w. reads-then reads-style (λ t. reads-then (reads-field value-field) (λ g. reads-done _))))
-    (λ a. reads-then (reads-byte-counted (reads-field half-field)) (λ f. reads-then (reads-byte-counted (reads-field half-field)) (λ b. reads-done _))))

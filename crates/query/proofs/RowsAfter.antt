@@ -26,8 +26,8 @@ use Rattle.query.specs.Sizes.{mostBytes}
 use Rattle.query.specs.Reader.{many}
 use Rattle.query.specs.Entries.{Face, Override, readFace}
 use Rattle.query.specs.Positions.{LiesAt}
-use Rattle.query.specs.Values.{faceAt, faceEnd}
-use Rattle.query.specs.View.{overriddenBy, afterOverrides, entryOf}
+use Rattle.query.specs.Values.{fileEnd, faceAt, faceEnd}
+use Rattle.query.specs.View.{overriddenBy, afterOverrides, noEntry, entryOf}
 use Rattle.query.specs.CallTables.{rowAt, withWidth, withStyle, withWeight, rowOverridden, rowsAfter, FacesLie, EntryRow, RowsAt}
 use Rattle.query.proofs.Ends.{many-length}
 use Rattle.query.proofs.FacesAt.{Next, face-at, next-face}
@@ -54,6 +54,7 @@ module _ {s : List ℕ} {at count : ℕ} {before : List (List ℕ)} where
     record FaceHere (faces : List Face) : Type 0 where
       row : EntryRow s (entryOf faces i) (rowAt s place)
       inside : place < length s
+      file : fileEnd s place ≤ length s
       others : LiesAt (many (count - (i + 1)) readFace) s (faceEnd s place) (drop (i + 1) faces)
 
     face-here : (faces : List Face) → LiesAt (many count readFace) s at faces → FaceHere faces
@@ -62,25 +63,26 @@ module _ {s : List ℕ} {at count : ℕ} {before : List (List ℕ)} where
         let one : count - i ≡ suc (count - (i + 1)) = omega arith in
         go (next-face (count - (i + 1)) s place (drop i faces) (rw one at (left .left faces lies)))
       where
-        none : Face
-        none = record { held = false; font = [] }
-
-        split : drop i faces ≡ getD faces i none ∷ drop (i + 1) faces
-        split = rw (add-one i) (drop-cons faces i none (omega (arith, many-length readFace count s at faces (lies .end) (lies .read))))
+        split : drop i faces ≡ getD faces i noEntry ∷ drop (i + 1) faces
+        split = rw (add-one i) (drop-cons faces i noEntry (omega (arith, many-length readFace count s at faces (lies .end) (lies .read))))
 
         go : Next readFace (count - (i + 1)) s place (faceAt s place) (faceEnd s place) (drop i faces) → FaceHere faces
         go next =
             let read = face-at s place _ _ (next .read) in
-            let is : faceAt s place ≡ getD faces i none = cc split in
+            let is : faceAt s place ≡ getD faces i noEntry = cc split in
             let rest : next .rest ≡ drop (i + 1) faces = cc split in
             record {
               row = record { entry = place; is = refl; face-is = is; taken = rw is at (read .2); inside = read .3 };
               inside = read .3;
+              file = read .4;
               others = rw rest at (next .left);
             }
 
     pub place-low : FacesLie s at count → place < mostBytes
     place-low known = omega (arith, known .short, face-here (known .faces) (known .lie) .inside)
+
+    pub file-inside : FacesLie s at count → fileEnd s place ≤ length s
+    file-inside known = face-here (known .faces) (known .lie) .file
 
     pub face-passed : {next : ℕ} {row : List ℕ} → i < length rows → row ≡ rowAt s place → next ≡ faceEnd s place
         → FacesLeft s at count (i + 1) next before (set rows i row)

@@ -8,8 +8,10 @@ use lib.ListN.{length, getD, set}
 use Rattle.font.specs.Single.{orderKey, wholePercent}
 use Rattle.font.specs.Tables.{u16At}
 use Rattle.font.specs.Reading.{readAttributes}
-use Rattle.font.specs.Font.{fontRefusal, fromFontRef, statesAxis}
+use Rattle.font.specs.Collection.{fontStart}
+use Rattle.font.specs.Font.{fontRefusal, statesAxis}
 use Rattle.font.specs.Overrides.{setDefaults, withAxes}
+use Rattle.font.specs.declared.attributes.Attributes.{Attributes}
 use Rattle.font.specs.declared.font.FontInfo.{FontInfo}
 use Rattle.font.specs.declared.overrides.WidthOverride.{WidthOverride}
 use Rattle.font.specs.declared.overrides.StyleOverride.{StyleOverride}
@@ -22,13 +24,13 @@ use Rattle.matching.specs.Matching.{styleNumber, hasAxis, slnt}
 use Rattle.matching.specs.Rows.{rowOf}
 use Rattle.query.specs.declared.job.Walked.{Walked}
 use Rattle.query.specs.Sizes.{mostBytes, mostOverrides, mostFamilies, mostPlaces}
-use Rattle.query.specs.Fields.{counted}
+use Rattle.query.specs.Fields.{NumberedFont, counted}
 use Rattle.query.specs.Reader.{many}
 use Rattle.query.specs.Entries.{Face, Pair, Override, Request, readFace, readOverride}
 use Rattle.query.specs.Job.{checkJob, jobOf}
 use Rattle.query.specs.Positions.{LiesAt}
 use Rattle.query.specs.Values.{faceAt, requestAt}
-use Rattle.query.specs.View.{View, afterOverrides, entryOf, viewOf}
+use Rattle.query.specs.View.{View, afterOverrides, entryOf, statedBy, viewOf}
 use Rattle.query.specs.Offers.{membersOf}
 
 -- ---- rows
@@ -47,9 +49,16 @@ isHeld row = eqb (getD row 4 0 / 2 % 2) 1
 unfoldable pub heldRow : List (List ℕ) → ℕ → Bool
 heldRow rows i = isHeld (getD rows i [])
 
+-- the attributes and the axes that a file's font states
+unfoldable pub attributesIn : NumberedFont → Attributes
+attributesIn f = readAttributes (f .file) (fontStart (f .file) (f .number))
+
+unfoldable pub axisIn : NumberedFont → ℕ → Bool
+axisIn f tag = statesAxis (f .file) (fontStart (f .file) (f .number)) tag
+
 -- the row of the face whose entry begins at a position, before its overrides
 unfoldable pub rowAt : List ℕ → ℕ → List ℕ
-rowAt s p = rowOf (readAttributes (faceAt s p .font)) (marks p (faceAt s p .held) (statesAxis (faceAt s p .font) slnt))
+rowAt s p = rowOf (attributesIn (faceAt s p .font)) (marks p (faceAt s p .held) (axisIn (faceAt s p .font) slnt))
 
 -- ---- overrides on rows
 
@@ -86,7 +95,7 @@ pub record EntryRow (s : List ℕ) (face : Face) (row : List ℕ) : Type 0 where
   pub entry : ℕ
   pub is : row ≡ rowAt s entry
   pub face-is : faceAt s entry ≡ face
-  pub taken : fontRefusal (face .font) ≡ 0
+  pub taken : fontRefusal (face .font .file) (face .font .number) ≡ 0
   pub inside : entry < length s
 
 -- the rows of so many faces that lie one after another from a position on
@@ -112,7 +121,7 @@ pub record FaceOverridden (s : List ℕ) (at count number : ℕ) (before after :
 -- the face of a number, by the position of its entry, after the overrides, by the position of their section
 pub record OfferedFace (s : List ℕ) (section entry number : ℕ) (font : FontInfo) : Type 0 where
   pub is : (n : ℕ) (os : List Override) → LiesAt (counted mostOverrides (readOverride n)) s section os
-      → font ≡ afterOverrides os number (fromFontRef (faceAt s entry .font) .font)
+      → font ≡ afterOverrides os number (statedBy (faceAt s entry .font))
 
 -- ---- what is loaded
 

@@ -59,13 +59,22 @@ pub record Kept (s : List ℕ) (job : Job) : Type 0 where
 abbrev pub cutBefore : Refusal → ℕ → Checked
 cutBefore w p = cond (eqb (number w) 27) (record { refusal = 0; position = 0 }) (record { refusal = 18; position = p })
 
+-- What the check call answers for the first n bytes of such a job: 18, a field is past their end; or already the job's own refusal; and before bytes left, 27, they can
+-- be a job. So no other refusal is met before. Where each stands is another matter: a font of a collection is refused at its length field once its number is read,
+-- and so after an 18 at that number, which stands behind (`InTurn`).
+pub data Until (s : List ℕ) (w : Refusal) (n : ℕ) : Type 0 where
+  lacking : checkJob (take n s) .refusal ≡ 18 → Until s w n
+  met : checkJob (take n s) ≡ checkJob s → Until s w n
+  whole : number w ≡ 27 → checkJob (take n s) ≡ record { refusal = 0; position = 0 } → Until s w n
+
 -- "Every other job .. gets the refusal of the table, with the output buffer untouched": the row of the field first met, and that field's position. Which row a
--- field has is said where it is read (Fields, Entries). The bytes before the field, and, but for 18, those after it, change nothing of it.
+-- field has is said where it is read (Fields, Entries). The bytes before the field, and, but for 18, those after the job, change nothing of it.
 pub record Other (s : List ℕ) : Type 0 where
   pub why : Refusal
   pub position : ℕ
   pub read : readJob s ≡ refused why position
   pub first : checkJob (take position s) ≡ cutBefore why position
+  pub until : length s ≤ mostBytes → (n : ℕ) → Until s why n
   pub stays : (u : List ℕ) → length (s ++ u) ≤ mostBytes → (number why ≡ 18 → ⊥) → checkJob (s ++ u) ≡ checkJob s
   pub check : checkJob s ≡ record { refusal = number why; position = position }
   pub untouched : (k n : ℕ) (out : List ℕ) → length out ≡ recordSize → offerCall s k n out ≡ unwritten (number why) out

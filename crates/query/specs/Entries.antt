@@ -20,12 +20,12 @@ use Rattle.font.specs.Attributes.{attributesOf}
 use Rattle.font.specs.Reading.{bit}
 use Rattle.query.specs.Sizes.{mostPlaces}
 use Rattle.query.specs.Reader.{Reader, done, _>>=_}
-use Rattle.query.specs.Fields.{half, word, ratio, value, counted, byteCounted, heldByte, faceNumber, mask, kind, spareByte, spareWord, orSpare, fontFile}
+use Rattle.query.specs.Fields.{half, word, ratio, value, counted, byteCounted, heldByte, faceNumber, mask, kind, spareByte, spareWord, orSpare, NumberedFont, fontFile}
 
--- "held byte 0 or 1, 32-bit length, font file"
+-- "held byte 0 or 1, 32-bit length, font file", and a collection's font number
 pub record Face : Type 0 where
   pub held : Bool
-  pub font : List ℕ
+  pub font : NumberedFont
 
 unfoldable pub readFace : Reader Face
 readFace = do

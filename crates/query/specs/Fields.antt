@@ -8,9 +8,10 @@ use lib.Ieee.{Float, binary32, ofBits}
 use lib.Ieee.Scale.{finite}
 use Rattle.font.specs.Single.{acceptedRatio}
 use Rattle.font.specs.Tables.{u16At, u32At}
+use Rattle.font.specs.Collection.{isCollection, headerFits, fontCount}
 use Rattle.font.specs.Font.{fontRefusal}
 use Rattle.query.specs.declared.fields.At.{At}
-use Rattle.query.specs.Reader.{Refusal, pastEnd, overLimit, notHeld, badDirectory, noCharmap, manyAxes, noFace, unknown, badNumber, Reader, refused, got, done, field, tested, many, _>>=_}
+use Rattle.query.specs.Reader.{Refusal, pastEnd, overLimit, notHeld, badDirectory, noCharmap, manyAxes, noFace, unknown, badNumber, noFont, Reader, refused, got, done, field, tested, many, _>>=_}
 
 -- fields of 1, 2 and 4 bytes
 unfoldable pub byte : Reader ℕ
@@ -79,7 +80,12 @@ orSpare false none r = do
   b ← spareWord
   done none
 
--- 21 to 23, by the font layer's number
+-- a font file, and which of its fonts it is: 0 for a lone font
+pub record NumberedFont : Type 0 where
+  pub file : List ℕ
+  pub number : ℕ
+
+-- 21 to 23, by the font layer's number; 30 is met before, at the font number
 unfoldable pub fontRow : ℕ → Refusal
 fontRow n = cond (eqb n 21) badDirectory (cond (eqb n 22) noCharmap manyAxes)
 
@@ -87,20 +93,36 @@ fontRow n = cond (eqb n 21) badDirectory (cond (eqb n 22) noCharmap manyAxes)
 unfoldable pub fontBytes : ℕ → ℕ → Reader (List ℕ)
 fontBytes place n s p = cond (leb (p + n) (length s)) (got (take n (drop p s)) (p + n)) (refused pastEnd place)
 
--- a font file that the font layer takes, or its refusal at the length field
-unfoldable pub fontTaken : ℕ → List ℕ → Reader (List ℕ)
-fontTaken place font s p =
-    cond (eqb (fontRefusal font) 0) (got font p) (refused (fontRow (fontRefusal font)) place)
-
 -- "32-bit length, font file": one field, whose position is "a font's: its length field"
-unfoldable pub fontAt : ℕ → Reader (List ℕ)
-fontAt place = do
-  n ← word
-  font ← fontBytes place n
-  fontTaken place font
+unfoldable pub sizedFile : Reader (List ℕ)
+sizedFile s p = (word >>= fontBytes p) s p
 
-unfoldable pub fontFile : Reader (List ℕ)
-fontFile s p = fontAt p s p
+-- 30: "the font number is not below the count"
+unfoldable pub numberBelow : ℕ → Reader ℕ
+numberBelow n = tested noFont (λ i. ltb i n) half
+
+unfoldable pub refusedAt : {A : Type 0} → Refusal → ℕ → Reader A
+refusedAt why place s p = refused why place
+
+-- A collection's file "is followed by a 16-bit font number". "(30, placed at the number: ..; after the 12 header bytes are found and then the number itself, whose
+-- lack is 18, before any other 21.)" The length field lies at `place`.
+unfoldable pub fontNumber : ℕ → List ℕ → Reader ℕ
+fontNumber place file =
+    cond (isCollection file) (cond (headerFits file) (numberBelow (fontCount file)) (refusedAt badDirectory place)) (done 0)
+
+-- a font that the font layer takes, or its refusal at the length field
+unfoldable pub fontTaken : ℕ → NumberedFont → Reader NumberedFont
+fontTaken place font s p =
+    cond (eqb (fontRefusal (font .file) (font .number)) 0) (got font p) (refused (fontRow (fontRefusal (font .file) (font .number))) place)
+
+unfoldable pub numbered : ℕ → List ℕ → Reader NumberedFont
+numbered place file = do
+  i ← fontNumber place file
+  fontTaken place (record { file = file; number = i })
+
+-- "32-bit length, font file", and a collection's font number. Every other refusal of the font, met after the number was read, is placed at the length field.
+unfoldable pub fontFile : Reader NumberedFont
+fontFile s p = (sizedFile >>= numbered p) s p
 
 -- ---- how a tested field ends, which is what the code of a field answers
 

@@ -20,8 +20,10 @@ use Rattle.font.specs.declared.overrides.WidthOverride.the-variants as Width
 use Rattle.font.specs.declared.overrides.StyleOverride.the-variants as Style
 use Rattle.font.specs.declared.overrides.WeightOverride.the-variants as Weight
 use Rattle.font.specs.Single.{acceptedRatio}
+use Rattle.font.specs.Collection.{isCollection}
 use Rattle.font.specs.Font.{fontRefusal}
 use Rattle.query.specs.Sizes.{mostBytes, mostFaces, mostOverrides, mostFamilies, mostPlaces, mostRequests}
+use Rattle.query.specs.Fields.{NumberedFont}
 use Rattle.query.specs.Entries.{Face, Pair, Override, Family, Request}
 use Rattle.query.specs.Job.{Job}
 
@@ -57,9 +59,13 @@ after16 e xs = bytes16 (length xs) ++ each e xs
 unfoldable pub after8 : {A : Type 0} → (A → List ℕ) → List A → List ℕ
 after8 e xs = bytes8 (length xs) ++ each e xs
 
+-- a collection's file "is followed by a 16-bit font number"
+unfoldable pub layoutNumber : NumberedFont → List ℕ
+layoutNumber f = cond (isCollection (f .file)) (bytes16 (f .number)) []
+
 -- "held byte 0 or 1, 32-bit length, font file"
-unfoldable pub layoutFont : List ℕ → List ℕ
-layoutFont font = bytes32 (length font) ++ font
+unfoldable pub layoutFont : NumberedFont → List ℕ
+layoutFont f = bytes32 (length (f .file)) ++ (f .file ++ layoutNumber f)
 
 unfoldable pub layoutFace : Face → List ℕ
 layoutFace f = bytes8 (cond (f .held) 1 0) ++ layoutFont (f .font)
@@ -168,10 +174,14 @@ IsRatio x = IsNumber acceptedRatio x
 abbrev pub IsValue : Float → Type 0
 IsValue x = IsNumber finite x
 
--- a font file that section 2 does not refuse
-pub record FaceFits (f : Face) : Type 0 where
-  pub long : Fits32 (length (f .font))
-  pub taken : fontRefusal (f .font) ≡ 0
+-- a font that section 2 does not refuse; a lone one has the number 0, for any other is 30
+pub record FontFits (f : NumberedFont) : Type 0 where
+  pub long : Fits32 (length (f .file))
+  pub number : Fits16 (f .number)
+  pub taken : fontRefusal (f .file) (f .number) ≡ 0
+
+abbrev pub FaceFits : Face → Type 0
+FaceFits f = FontFits (f .font)
 
 unfoldable pub AngleFits : Angle → Type 0
 AngleFits Unstated = Unit {0}

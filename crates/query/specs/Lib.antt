@@ -5,12 +5,14 @@ pub mod Fields
 pub mod Entries
 pub mod Job
 pub mod Layout
+pub mod InTurn
 pub mod View
 pub mod Offers
 pub mod Record
 pub mod Call
 pub mod Cursor
 pub mod Demands
+pub mod LoneFonts
 -- How the steps of a call hand on what they found: nothing here is a promise to a user.
 pub mod Items
 pub mod Sections

@@ -1,5 +1,5 @@
 -- Section 6: "First met, reading left to right". A reader takes the bytes of a job and a position, and answers the refusal that it meets, with
--- the position of the field, or a value and the next position.
+-- the position of the field, or a value and the next position. A font of a collection can be refused at its length field after its number was read.
 use Prim.Native.Nat.{ℕ, zero, suc, _+_}
 use mathlib.Core.Bool.{Bool, cond}
 use mathlib.Core.List.{List, [], _∷_}
@@ -8,9 +8,9 @@ use lib.Dec.{leb}
 use Rattle.query.specs.declared.fields.At.{At}
 
 infixl 20 _>>=_
--- the rows of the table that a job alone can meet
+-- the rows of the table that a job alone can meet: 17 to 27, and 30
 pub data Refusal : Type 0 where
-  overlong pastEnd overLimit notHeld badDirectory noCharmap manyAxes noFace unknown badNumber bytesLeft : Refusal
+  overlong pastEnd overLimit notHeld badDirectory noCharmap manyAxes noFace unknown badNumber bytesLeft noFont : Refusal
 
 -- the table's column "No."
 unfoldable pub number : Refusal → ℕ
@@ -25,6 +25,7 @@ number noFace = 24
 number unknown = 25
 number badNumber = 26
 number bytesLeft = 27
+number noFont = 30
 
 pub data Got (A : Type 0) : Type 0 where
   refused : Refusal → ℕ → Got A

@@ -33,6 +33,10 @@ mostRequests = 256
 abbrev pub faceHead : ℕ
 faceHead = 5
 
+-- the font number behind a collection's file
+abbrev pub fontNumberSize : ℕ
+fontNumberSize = 2
+
 -- an override: where its mask, ratio, style, weight and pair count stand after its face; its size before its pairs; and a pair: tag and value
 abbrev pub overrideMask : ℕ
 overrideMask = 2

@@ -9,6 +9,7 @@ use lib.ListN.{getD, take, drop}
 use Rattle.font.specs.First.{tabulate}
 use Rattle.font.specs.Single.{single}
 use Rattle.font.specs.Tables.{u16At, u32At}
+use Rattle.font.specs.Collection.{isCollection}
 use Rattle.font.specs.Reading.{bit}
 use Rattle.font.specs.Attributes.{attributesOf}
 use Rattle.font.specs.declared.attributes.Angle.the-variants.{Unstated, Degrees}
@@ -18,7 +19,8 @@ use Rattle.font.specs.declared.overrides.FontInfoOverride.{FontInfoOverride}
 use Rattle.font.specs.declared.overrides.WidthOverride.the-variants as Width
 use Rattle.font.specs.declared.overrides.StyleOverride.the-variants as Style
 use Rattle.font.specs.declared.overrides.WeightOverride.the-variants as Weight
-use Rattle.query.specs.Sizes.{faceHead, overrideMask, overrideRatio, overrideStyle, overrideWeight, overrideCount, overrideHead, pairSize, requestAttributes, attributesStyle, attributesWeight, requestHead}
+use Rattle.query.specs.declared.fields.Behind.{Behind}
+use Rattle.query.specs.Sizes.{faceHead, fontNumberSize, overrideMask, overrideRatio, overrideStyle, overrideWeight, overrideCount, overrideHead, pairSize, requestAttributes, attributesStyle, attributesWeight, requestHead}
 use Rattle.query.specs.Entries.{styleOfKind, Face, Pair, Override, Request}
 
 -- "Ratio, angle, weight and values are 32-bit single bits." An accepted job has finite numbers alone, and 0 stands for others
@@ -33,13 +35,30 @@ styleAt s p = styleOfKind (getD s p 0) (cond (eqb (getD s p 0) 3) (Degrees (numb
 unfoldable pub numbersAt : List ℕ → ℕ → ℕ → List ℕ
 numbersAt s p n = tabulate (λ i. u16At s (p + 2 * i)) n
 
--- ---- faces: "held byte 0 or 1, 32-bit length, font file"
+-- ---- faces: "held byte 0 or 1, 32-bit length, font file", and the number behind a collection's file
+
+unfoldable pub fileAt : List ℕ → ℕ → List ℕ
+fileAt s p = take (u32At s (p + 1)) (drop (p + faceHead) s)
+
+abbrev pub fileEnd : List ℕ → ℕ → ℕ
+fileEnd s p = p + faceHead + u32At s (p + 1)
+
+-- behind a file that ends at a position
+unfoldable pub numberBehind : List ℕ → ℕ → List ℕ → ℕ
+numberBehind s end file = cond (isCollection file) (u16At s end) 0
+
+unfoldable pub behindNumber : List ℕ → ℕ → ℕ
+behindNumber file end = cond (isCollection file) (end + fontNumberSize) end
+
+abbrev pub behindFile : List ℕ → ℕ → List ℕ → Behind
+behindFile s end file = record { number = numberBehind s end file; next = behindNumber file end }
 
 unfoldable pub faceAt : List ℕ → ℕ → Face
-faceAt s p = record { held = eqb (getD s p 0) 1; font = take (u32At s (p + 1)) (drop (p + faceHead) s) }
+faceAt s p =
+    record { held = eqb (getD s p 0) 1; font = record { file = fileAt s p; number = numberBehind s (fileEnd s p) (fileAt s p) } }
 
 abbrev pub faceEnd : List ℕ → ℕ → ℕ
-faceEnd s p = p + faceHead + u32At s (p + 1)
+faceEnd s p = behindNumber (fileAt s p) (fileEnd s p)
 
 -- ---- overrides: "16-bit face, mask byte (1 width, 2 style, 4 weight), ratio, style, weight, axis pair count byte, pairs of tag and value"
 

@@ -7,6 +7,7 @@ use lib.ListN.{getD}
 use Rattle.font.specs.declared.font.FontInfo.{FontInfo}
 use Rattle.font.specs.Font.{fromFontRef}
 use Rattle.font.specs.Overrides.{withOverride}
+use Rattle.query.specs.Fields.{NumberedFont}
 use Rattle.query.specs.Entries.{Face, Pair, Override, Family}
 use Rattle.query.specs.Job.{Job}
 
@@ -26,13 +27,20 @@ afterOverrides [] i f = f
 afterOverrides (o ∷ os) i f = afterOverrides os i (cond (eqb (o .face) i) (overriddenBy o f) f)
 
 -- the entry of a face; what stands past the list is read by nothing
+abbrev pub noEntry : Face
+noEntry = record { held = false; font = record { file = []; number = 0 } }
+
 unfoldable pub entryOf : List Face → ℕ → Face
-entryOf faces i = getD faces i (record { held = false; font = [] })
+entryOf faces i = getD faces i noEntry
+
+-- the face that a file's font states, before its overrides
+unfoldable pub statedBy : NumberedFont → FontInfo
+statedBy f = fromFontRef (f .file) (f .number) .font
 
 unfoldable pub viewOf : Job → View
 viewOf job =
     record {
-      font = λ i. afterOverrides (job .overrides) i (fromFontRef (entryOf (job .faces) i .font) .font);
+      font = λ i. afterOverrides (job .overrides) i (statedBy (entryOf (job .faces) i .font));
       held = λ i. entryOf (job .faces) i .held;
       families = map (λ (m : Family). m .members) (job .families);
     }

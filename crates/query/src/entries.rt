@@ -10,7 +10,7 @@ use crate::fields::At;
 use crate::sizes;
 use font::tables;
 
-// Held byte, length and font file.
+// Held byte, length and font file, and the number behind a collection's.
 pub(crate) fn face(job: &[u8], at: usize) -> At
     ensures { λ r. ⌜ r ≡ ended (readFace (now (job .entry)) at) ⌝ }
 {

@@ -5,7 +5,7 @@ ghost use Prim.Native.Nat.{_+_, _^_, _≤_, _<_, min};
 ghost use Rattle.font.specs.Tables.{u16At};
 ghost use Rattle.query.specs.Sizes.{mostOverrides};
 ghost use Rattle.query.specs.View.{overriddenBy};
-ghost use Rattle.query.specs.Values.{faceAt, givenAt, pairsAt, overrideAt, overrideEnd};
+ghost use Rattle.query.specs.Values.{fileAt, fileEnd, givenAt, pairsAt, overrideAt, overrideEnd};
 ghost use Rattle.query.specs.CallTables.{afterPairs, FaceOverridden, OfferedFace};
 use crate::fields;
 use crate::sizes;
@@ -31,12 +31,20 @@ fn least(a: usize, b: usize) -> usize
 // The font file of the face whose entry lies at a position.
 pub(crate) fn file_at<'a>(job: &'a [u8], at: usize) -> &'a [u8]
     requires { ⌜ at < 2 ^ 63 ⌝ }
-    ensures { λ r. ⌜ now r ≡ faceAt (now (job .entry)) at .font ⌝ }
+    ensures { λ r. ⌜ now r ≡ fileAt (now (job .entry)) at ⌝ }
 {
     let size = tables::u32_at(job, at + 1) as usize;
     let start = least(at + sizes::FACE_HEAD, job.len());
     let end = least(start + size, job.len());
     &job[start..end]
+}
+
+// Where that file ends.
+pub(crate) fn file_end(job: &[u8], at: usize) -> usize
+    requires { ⌜ at < 2 ^ 63 ⌝ }
+    ensures { λ r. ⌜ (r ≡ fileEnd (now (job .entry)) at) × (r < at + 2 ^ 33) ⌝ }
+{
+    at + sizes::FACE_HEAD + tables::u32_at(job, at + 1) as usize
 }
 
 fn width_given(given: bool, ratio: f32) -> WidthOverride
@@ -155,7 +163,9 @@ pub(crate) fn offered_face(job: &[u8], section: usize, entry: usize, number: usi
     requires { ⌜ (section < 2 ^ 31) × (entry < 2 ^ 62) × (u16At (now job) section ≤ mostOverrides) ⌝ }
     ensures { λ r. ⌜ OfferedFace (now (job .entry)) section entry number r ⌝ }
 {
-    let checked = FontInfo::from_font_ref(file_at(job, entry));
+    let file = file_at(job, entry);
+    let behind = fields::behind_file(job, file_end(job, entry), file);
+    let checked = FontInfo::from_font_ref(file, behind.number);
     let font = checked.font;
     let count = tables::u16_at(job, section) as usize;
     overridden(job, section + 2, count, number, font)

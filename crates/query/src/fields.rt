@@ -7,7 +7,11 @@ ghost use lib.Ieee.{binary32, ofBits};
 ghost use lib.Ieee.Scale.{finite};
 ghost use Rattle.font.specs.Single.{acceptedRatio};
 ghost use Rattle.query.specs.Reader.{ended, many};
-ghost use Rattle.query.specs.Fields.{fieldEnd, byte, half, word, ratio, value, count, heldByte, faceNumber, mask, kind, spareByte, spareWord, fontFile};
+ghost use Rattle.query.specs.Fields.{fieldEnd, byte, half, word, ratio, value, count, heldByte, faceNumber, mask, kind, spareByte, spareWord, sizedFile, fontNumber, fontFile};
+ghost use Rattle.query.specs.Values.{behindFile};
+use crate::sizes;
+use font::collection::font_count;
+use font::collection::is_collection;
 use font::font::font_refusal;
 use font::single;
 use font::tables;
@@ -171,9 +175,47 @@ pub(crate) fn spare_word(job: &[u8], at: usize) -> At
     tested(job, at, 4, tables::u32_at(job, at) == 0, 25)
 }
 
+// What stands behind a font file: the number of its font, and where its face ends.
+pub(crate) struct Behind {
+    pub number: u16,
+    pub next: usize,
+}
+
+// What stands behind a file that ends at `end`. A lone font has no number there; it is 0.
+pub(crate) fn behind_file(job: &[u8], end: usize, file: &[u8]) -> Behind
+    requires { ⌜ end < 2 ^ 63 ⌝ }
+    ensures { λ r. ⌜ r ≡ behindFile (now (job .entry)) end (now (file .entry)) ⌝ }
+{
+    if is_collection(file) {
+        return Behind {
+            number: tables::u16_at(job, end),
+            next: end + sizes::FONT_NUMBER,
+        };
+    }
+    Behind {
+        number: 0,
+        next: end,
+    }
+}
+
+// The font number behind a file that ends at `end` and has its 12 header bytes. The file's length stands at `place`.
+fn font_number(job: &[u8], end: usize, file: &[u8], place: usize) -> At
+    requires { ⌜ 12 ≤ length (now file) ⌝ }
+    ensures { λ r. ⌜ r ≡ ended (fontNumber place (now (file .entry)) (now (job .entry)) end) ⌝ }
+{
+    if is_collection(file) {
+        let below = (tables::u16_at(job, end) as u32) < font_count(file);
+        return tested(job, end, sizes::FONT_NUMBER, below, 30);
+    }
+    At {
+        refusal: 0,
+        at: end,
+    }
+}
+
 // A font's length and bytes: one field, placed at its length.
-pub(crate) fn font_file(job: &[u8], at: usize) -> At
-    ensures { λ r. ⌜ r ≡ ended (fontFile (now (job .entry)) at) ⌝ }
+fn sized_file(job: &[u8], at: usize) -> At
+    ensures { λ r. ⌜ r ≡ ended (sizedFile (now (job .entry)) at) ⌝ }
 {
     if past(job, at, 4) {
         return At { refusal: 18, at };
@@ -184,12 +226,33 @@ pub(crate) fn font_file(job: &[u8], at: usize) -> At
         return At { refusal: 18, at };
     }
     let end = start + size;
-    let refusal = font_refusal(&job[start..end]);
+    At {
+        refusal: 0,
+        at: end,
+    }
+}
+
+// A font's length and bytes, and a collection's font number. A refusal that is not the number's is placed at the length.
+pub(crate) fn font_file(job: &[u8], at: usize) -> At
+    ensures { λ r. ⌜ r ≡ ended (fontFile (now (job .entry)) at) ⌝ }
+{
+    let sized = sized_file(job, at);
+    if sized.refusal != 0 {
+        return sized;
+    }
+    let end = sized.at;
+    let file = &job[at + 4..end];
+    if file.len() < 12 {
+        return At { refusal: 21, at };
+    }
+    let number = font_number(job, end, file, at);
+    if number.refusal != 0 {
+        return number;
+    }
+    let behind = behind_file(job, end, file);
+    let refusal = font_refusal(file, behind.number);
     if refusal == 0 {
-        At {
-            refusal: 0,
-            at: end,
-        }
+        number
     } else {
         At { refusal, at }
     }

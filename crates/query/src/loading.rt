@@ -3,16 +3,16 @@ ghost use mathlib.Core.Path.{_≡_};
 ghost use Prim.Native.Nat.{ℕ, _^_, _≤_, _<_};
 ghost use lib.ListN.{length, getD};
 ghost use Rattle.query.specs.Sizes.{mostOverrides, mostFamilies};
+ghost use Rattle.query.specs.Values.{fileAt, fileEnd, numberBehind};
 ghost use Rattle.query.specs.CallTables.{bitOf, rowAt, withWidth, withStyle, withWeight, rowOverridden, FacesLie, RowsAt, RowsOverridden, nowhere, Room, LoadAnswer};
-use crate::faces::file_at;
+use crate::faces::file_end;
 use crate::faces::given_at;
 use crate::faces::override_end;
 use crate::fields;
 use crate::job;
 use crate::job::Walked;
 use crate::sizes;
-use font::font::read_attributes;
-use font::font::states_axis;
+use font::font::read_stated;
 use font::overrides::FontInfoOverride;
 use font::overrides::StyleOverride;
 use font::overrides::WeightOverride;
@@ -37,15 +37,16 @@ fn bit_of(b: bool) -> u32
     if b { 1 } else { 0 }
 }
 
-// The row of the face whose entry lies at a position, before its overrides.
-fn row_at(job: &[u8], at: usize) -> Row
-    requires { ⌜ at < 2 ^ 30 ⌝ }
+// The row of the face whose entry lies at a position, before its overrides, by its file and font number.
+fn row_at(job: &[u8], at: usize, file: &[u8], number: u16) -> Row
+    requires { ⌜ (at < 2 ^ 30) × (now file ≡ fileAt (now job) at) × (number ≡ numberBehind (now job) (fileEnd (now job) at) (now file)) ⌝ }
     ensures { λ r. ⌜ r ≡ rowAt (now (job .entry)) at ⌝ }
 {
-    let file = file_at(job, at);
     let held = bit_of(fields::byte_at(job, at) == 1);
-    let slant = bit_of(states_axis(file, axes::SLNT));
-    rows::row(read_attributes(file), 4 * (at as u32) + (2 * held + slant))
+    let stated = read_stated(file, number, axes::SLNT);
+    let slant = bit_of(stated.has_axis);
+    let attributes = stated.attributes;
+    rows::row(attributes, 4 * (at as u32) + (2 * held + slant))
 }
 
 // The rows of `count` faces, whose entries lie one after another from `at` on.
@@ -56,9 +57,12 @@ fn load_faces(job: &[u8], at: usize, count: usize, rows: &mut [Row])
     let mut place = at;
     let mut i: usize = 0;
     while i < count {
-        let row = row_at(job, place);
+        let end = file_end(job, place);
+        let file = &job[place + sizes::FACE_HEAD..end];
+        let behind = fields::behind_file(job, end, file);
+        let row = row_at(job, place, file, behind.number);
         rows[i] = row;
-        place += sizes::FACE_HEAD + tables::u32_at(job, place + 1) as usize;
+        place = behind.next;
         i += 1;
     }
 }

@@ -23,6 +23,9 @@ pub(crate) const MOST_REQUESTS: u16 = 256;
 // A face before its font file: held byte and length.
 pub(crate) const FACE_HEAD: usize = 5;
 
+// The font number behind a collection's file.
+pub(crate) const FONT_NUMBER: usize = 2;
+
 // Where an override has its mask, ratio, style, weight and pair count, after its face; and its size before its pairs.
 pub(crate) const OVERRIDE_MASK: usize = 2;
 

@@ -26,8 +26,14 @@ cast-end c = search needs
 add-end : tie.Need-add-end Inv-loop μ-loop
 add-end c = search needs
 
+add-if1 : tie.Need-add-if1 Inv-loop μ-loop
+add-if1 c = search needs
+
 returns : tie.Need-returns Inv-loop μ-loop
 returns c = search needs
+
+u16-at-requires : tie.Need-u16-at-requires Inv-loop μ-loop
+u16-at-requires c κs = search needs
 
 sub-from-font-ref : tie.Need-sub-from-font-ref Inv-loop μ-loop
 sub-from-font-ref c = search needs
@@ -43,6 +49,9 @@ from-font-ref-requires c κs = search needs
 
 print-checked-requires : tie.Need-print-checked-requires Inv-loop μ-loop
 print-checked-requires c κs = search needs
+
+add-at : tie.Need-add-at Inv-loop μ-loop
+add-at c = search needs
 
 loop-less : tie.Need-loop-less Inv-loop μ-loop
 loop-less c = search needs
@@ -64,12 +73,15 @@ print-list-spec =
     u32-at-requires
     cast-end
     add-end
+    add-if1
     returns
+    u16-at-requires
     sub-from-font-ref
     part-from-font-ref-start
     part-from-font-ref-end
     from-font-ref-requires
     print-checked-requires
+    add-at
     loop-less
     loop-again
     returns-2)

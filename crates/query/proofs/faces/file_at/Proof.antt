@@ -10,7 +10,7 @@ use lib.ListN.{length, take, drop, length-drop, drop-of-length-le}
 use lib.Seq.{take-all, take-nil, drop-length}
 use borrow.Author.Tests.{leb-true, leb-false}
 use Rattle.query.specs.Sizes.{faceHead}
-use Rattle.query.specs.Values.{faceAt}
+use Rattle.query.specs.Values.{fileAt}
 use borrow.Author.Needs.{needs}
 use Rattle.query.proofs.faces.file_at.Statement.{statement}
 use Rattle.query.proofs.faces.file_at.Tie as tie
@@ -71,7 +71,7 @@ part-result-end : tie.Need-part-result-end
 part-result-end c = search needs
 
 returns : tie.Need-returns
-unfolding faceAt
+unfolding fileAt
 returns c =
     let size = c .before .before .before .u32-at in
     let start = c .before .before .before .before .before .args in

@@ -1,72 +1,81 @@
--- `query::fields::font_file` meets its contract: each answer is that of the tests that led to it.
+-- `query::fields::font_file` meets its contract.
 -- Assumes nothing.
-use mathlib.Core.Path.{sym, _∙_}
-use Prim.Native.Nat.{_+_}
-use lib.ListN.{length}
 use native.Mathlib.Omega.{arith}
-use borrow.Author.Tests.{ltb-true, ltb-false}
-use Rattle.query.proofs.Fonts.{past-length, past-font, taken, refused-font}
+use mathlib.Core.Path.{refl, ap}
+use Rattle.query.specs.declared.fields.Behind.{Behind}
+use Rattle.query.specs.Fields.{fontFile}
+use Rattle.query.proofs.Ends.{stops}
+use Rattle.query.proofs.Fonts.{file-end, header-refused, number-refused, font-taken, font-refused}
 use borrow.Author.Needs.{needs}
 use Rattle.query.proofs.fields.font_file.Statement.{statement}
 use Rattle.query.proofs.fields.font_file.Tie as tie
 
-past-requires : tie.Need-past-requires
-past-requires c κs = search needs
+sized-file-requires : tie.Need-sized-file-requires
+sized-file-requires c κs = search needs
 
 returns : tie.Need-returns
-returns c = past-length _ _ (ltb-true (length (c .before .before .before .args .job .now)) (c .before .before .before .args .at + 4) (sym (c .before .past .ensures) ∙ c .if1 .taken))
+unfolding fontFile
+returns c = stops _ _ _ _ (c .before .before .sized-file .ensures) (c .if1 .taken)
 
-u32-at-requires : tie.Need-u32-at-requires
-u32-at-requires c κs = search needs
+add-file : tie.Need-add-file
+add-file c = omega (arith, file-end _ _ (c .before .before .sized-file .ensures) (c .if1 .left))
 
-cast-size : tie.Need-cast-size
-cast-size c = search needs
+sub-file : tie.Need-sub-file
+sub-file c = omega (arith, file-end _ _ (c .before .before .sized-file .ensures) (c .if1 .left))
 
-add-start : tie.Need-add-start
-add-start c = omega (arith, ltb-false (length (c .before .before .before .before .args .job .now)) (c .before .before .before .before .args .at + 4) (sym (c .before .before .past .ensures) ∙ c .before .if1 .left))
+part-file-start : tie.Need-part-file-start
+part-file-start c = omega (arith, file-end _ _ (c .before .before .sized-file .ensures) (c .if1 .left))
 
-past-requires-2 : tie.Need-past-requires-2
-past-requires-2 c κs = search needs
+part-file-end : tie.Need-part-file-end
+part-file-end c = omega (arith, file-end _ _ (c .before .before .sized-file .ensures) (c .if1 .left))
 
 returns-2 : tie.Need-returns-2
-returns-2 c = past-font _ _ _ (c .before .before .u32-at .ensures) (ltb-false (length (c .before .before .before .before .before .before .args .job .now)) (c .before .before .before .before .before .before .args .at + 4) (sym (c .before .before .before .before .past .ensures) ∙ c .before .before .before .if1 .left)) (ltb-true (length (c .before .before .before .before .before .before .args .job .now)) (c .before .before .before .before .before .before .args .at + 4 + c .before .before .u32-at .result) (sym (c .before .past2 .ensures) ∙ c .if2 .taken))
+returns-2 c = header-refused _ _ (c .before .before .before .before .sized-file .ensures) (c .before .before .if1 .left) refl (c .if2 .taken)
 
-add-end : tie.Need-add-end
-add-end c = omega (arith, ltb-false (length (c .before .before .before .before .before .before .args .job .now)) (c .before .before .before .before .before .before .args .at + 4 + c .before .before .u32-at .result) (sym (c .before .past2 .ensures) ∙ c .if2 .left))
+font-number-requires : tie.Need-font-number-requires
+font-number-requires c κs = search needs
 
-sub-font-refusal : tie.Need-sub-font-refusal
-sub-font-refusal c = search needs
+returns-3 : tie.Need-returns-3
+returns-3 c =
+    let first = c .before .before .before .before .before in
+    number-refused _ _ (first .before .before .sized-file .ensures) (first .if1 .left) refl (c .before .before .font-number .ensures) (c .if3 .taken)
 
-part-font-refusal-start : tie.Need-part-font-refusal-start
-part-font-refusal-start c = search needs
-
-part-font-refusal-end : tie.Need-part-font-refusal-end
-part-font-refusal-end c = ltb-false (length (c .before .before .before .before .before .before .args .job .now)) (c .before .before .before .before .before .before .args .at + 4 + c .before .before .u32-at .result) (sym (c .before .past2 .ensures) ∙ c .if2 .left)
+behind-file-requires : tie.Need-behind-file-requires
+behind-file-requires c κs =
+    let first = c .before .before .before .before .before in
+    omega (arith, file-end _ _ (first .before .before .sized-file .ensures) (first .if1 .left), first .before .before .before .before .good)
 
 font-refusal-requires : tie.Need-font-refusal-requires
 font-refusal-requires c κs = search needs
 
-returns-3 : tie.Need-returns-3
-returns-3 c = taken _ _ _ _ (c .before .before .before .before .before .u32-at .ensures) (ltb-false (length (c .before .before .before .before .before .before .before .before .before .args .job .now)) (c .before .before .before .before .before .before .before .before .before .args .at + 4 + c .before .before .before .before .before .u32-at .result) (sym (c .before .before .before .before .past2 .ensures) ∙ c .before .before .before .if2 .left)) (c .before .font-refusal .ensures) (c .if3 .taken)
-
 returns-4 : tie.Need-returns-4
-returns-4 c = refused-font _ _ _ _ (c .before .before .before .before .before .u32-at .ensures) (ltb-false (length (c .before .before .before .before .before .before .before .before .before .args .job .now)) (c .before .before .before .before .before .before .before .before .before .args .at + 4 + c .before .before .before .before .before .u32-at .result) (sym (c .before .before .before .before .past2 .ensures) ∙ c .before .before .before .if2 .left)) (c .before .font-refusal .ensures) (c .if3 .left)
+returns-4 c =
+    let n = c .before .before .before in
+    let first = n .before .before .before .before .before in
+    font-taken _ _ (first .before .before .sized-file .ensures) (first .if1 .left) refl (n .before .before .font-number .ensures) (n .if3 .left)
+    (ap (λ (b : Behind). b .number) (c .before .before .behind-file .ensures)) (c .before .font-refusal .ensures) (c .if4 .taken)
+
+returns-5 : tie.Need-returns-5
+returns-5 c =
+    let n = c .before .before .before in
+    let first = n .before .before .before .before .before in
+    font-refused _ _ (first .before .before .sized-file .ensures) (first .if1 .left) refl (n .before .before .font-number .ensures) (n .if3 .left)
+    (ap (λ (b : Behind). b .number) (c .before .before .behind-file .ensures)) (c .before .font-refusal .ensures) (c .if4 .left)
 
 pub font-file-spec : {M : Type 1} → statement M
 font-file-spec =
     tie.close
     (tie.spec
-    past-requires
+    sized-file-requires
     returns
-    u32-at-requires
-    cast-size
-    add-start
-    past-requires-2
+    add-file
+    sub-file
+    part-file-start
+    part-file-end
     returns-2
-    add-end
-    sub-font-refusal
-    part-font-refusal-start
-    part-font-refusal-end
-    font-refusal-requires
+    font-number-requires
     returns-3
-    returns-4)
+    behind-file-requires
+    font-refusal-requires
+    returns-4
+    returns-5)

@@ -1,8 +1,11 @@
 -- `query::loading::load_faces` meets its contract. The invariant: the faces passed have their rows, and the others lie from `place` on.
 -- Assumes nothing.
+use mathlib.Core.Path.{ap, _∙_}
 use Prim.Native.Nat.{_-_, _≤_}
 use native.Mathlib.Omega.{arith}
-use Rattle.query.proofs.RowsAfter.{FacesLeft, faces-first, place-low, face-passed, faces-last}
+use Rattle.query.specs.declared.fields.Behind.{Behind}
+use Rattle.query.proofs.FacesAt.{file-part, number-there, part-end}
+use Rattle.query.proofs.RowsAfter.{FacesLeft, faces-first, place-low, file-inside, face-passed, faces-last}
 use borrow.Author.Needs.{needs}
 use Rattle.query.proofs.loading.load_faces.Statement.{statement}
 use Rattle.query.proofs.loading.load_faces.Tie as tie
@@ -16,33 +19,47 @@ abbrev μ-loop : tie.MeasureT-loop
 loop-holds : tie.Need-loop-holds Inv-loop μ-loop
 loop-holds c = (omega arith, faces-first)
 
+file-end-requires : tie.Need-file-end-requires Inv-loop μ-loop
+file-end-requires c κs =
+    let l = c in
+    omega (arith, place-low (l .loop-test .taken) (l .before .loop .inv .1) (l .before .before .before .pre .0))
+
+add-file : tie.Need-add-file Inv-loop μ-loop
+add-file c =
+    let l = c .before in
+    omega (arith, place-low (l .loop-test .taken) (l .before .loop .inv .1) (l .before .before .before .pre .0))
+
+sub-file : tie.Need-sub-file Inv-loop μ-loop
+sub-file c =
+    let l = c .before in
+    omega (arith, file-inside (l .loop-test .taken) (l .before .loop .inv .1) (l .before .before .before .pre .0), c .file-end .ensures .0)
+
+part-file-start : tie.Need-part-file-start Inv-loop μ-loop
+part-file-start c =
+    let l = c .before in
+    omega (arith, file-inside (l .loop-test .taken) (l .before .loop .inv .1) (l .before .before .before .pre .0), c .file-end .ensures .0)
+
+part-file-end : tie.Need-part-file-end Inv-loop μ-loop
+part-file-end c =
+    let l = c .before in
+    omega (arith, file-inside (l .loop-test .taken) (l .before .loop .inv .1) (l .before .before .before .pre .0), c .file-end .ensures .0)
+
+behind-file-requires : tie.Need-behind-file-requires Inv-loop μ-loop
+behind-file-requires c κs =
+    let l = c .before .before in
+    omega (arith, place-low (l .loop-test .taken) (l .before .loop .inv .1) (l .before .before .before .pre .0), c .before .file-end .ensures .1)
+
 row-at-requires : tie.Need-row-at-requires Inv-loop μ-loop
-row-at-requires c κs = omega (arith, place-low (c .loop-test .taken) (c .before .loop .inv .1) (c .before .before .before .pre .0))
+row-at-requires c κs =
+    let l = c .before .before .before in
+    let end = c .before .before .file-end .ensures .0 in
+    (omega (arith, place-low (l .loop-test .taken) (l .before .loop .inv .1) (l .before .before .before .pre .0)), file-part _ _ _ end, number-there _ _ _ (c .behind-file .ensures) end)
 
 mul-row : tie.Need-mul-row Inv-loop μ-loop
 mul-row c = search needs
 
 slice-set-from-row : tie.Need-slice-set-from-row Inv-loop μ-loop
-slice-set-from-row c = omega (arith, c .before .before .loop .inv .1 .long, c .before .before .before .before .pre .1)
-
-add-u32-at : tie.Need-add-u32-at Inv-loop μ-loop
-add-u32-at c =
-    let l = c .before in
-    omega (arith, place-low (l .loop-test .taken) (l .before .loop .inv .1) (l .before .before .before .pre .0))
-
-u32-at-requires : tie.Need-u32-at-requires Inv-loop μ-loop
-u32-at-requires c κs = search needs
-
-cast-place : tie.Need-cast-place Inv-loop μ-loop
-cast-place c = search needs
-
-add-place : tie.Need-add-place Inv-loop μ-loop
-add-place c = search needs
-
-add-place-2 : tie.Need-add-place-2 Inv-loop μ-loop
-add-place-2 c =
-    let l = c .before .before in
-    omega (arith, place-low (l .loop-test .taken) (l .before .loop .inv .1) (l .before .before .before .pre .0))
+slice-set-from-row c = omega (arith, c .before .before .before .before .before .loop .inv .1 .long, c .before .before .before .before .before .before .before .pre .1)
 
 add-i : tie.Need-add-i Inv-loop μ-loop
 add-i c = search needs
@@ -52,10 +69,11 @@ loop-less c = search needs
 
 loop-again : tie.Need-loop-again Inv-loop μ-loop
 loop-again c =
-    let l = c .before .before in
+    let l = c .before .before .before .before in
     let left = l .before .loop .inv .1 in
     let room = l .before .before .before .pre .1 in
-    (omega arith, face-passed (l .loop-test .taken) left (omega (arith, left .long, room)) (c .before .row-at .ensures) (omega (arith, c .u32-at .ensures)))
+    let next = ap (λ (b : Behind). b .next) (c .before .behind-file .ensures) ∙ part-end _ _ _ (c .before .before .before .file-end .ensures .0) in
+    (omega arith, face-passed (l .loop-test .taken) left (omega (arith, left .long, room)) (c .row-at .ensures) next)
 
 same-length : tie.Need-same-length Inv-loop μ-loop
 same-length c = c .before .loop .inv .1 .long
@@ -70,14 +88,15 @@ load-faces-spec =
     Inv-loop
     μ-loop
     loop-holds
+    file-end-requires
+    add-file
+    sub-file
+    part-file-start
+    part-file-end
+    behind-file-requires
     row-at-requires
     mul-row
     slice-set-from-row
-    add-u32-at
-    u32-at-requires
-    cast-place
-    add-place
-    add-place-2
     add-i
     loop-less
     loop-again
