@@ -42,6 +42,7 @@ fn faces(count: usize, more: usize) -> Vec<Face> {
         .map(|number| Face {
             held: true,
             font: font_file(number, more),
+            number: 0,
         })
         .collect()
 }

@@ -43,7 +43,7 @@ fn plain_override(given: &Override) -> font::Override {
 
 /// A face as the plain reading holds it.
 fn face(plan: &FacePlan) -> Font {
-    let mut font = font::read(&plan.file()).expect("a font that is not refused");
+    let mut font = font::read(&plan.file(), 0).expect("a font that is not refused");
     font::apply_override(&mut font, &plain_override(&plan.given()));
     font
 }

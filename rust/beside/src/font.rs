@@ -1,20 +1,26 @@
 //! Fonts: attributes, axes, charmap index or refusal of the linked program
 //! beside the plain reading, and beside the original where that is here.
 
-use jobs::{bytes::hex, counts::numbers, font_list, fonts::random_font, random::Random};
+use jobs::{
+    bytes::{fonts_stated, hex},
+    counts::numbers,
+    font_list::{self, put},
+    fonts::{Numbered, random_file},
+    random::Random,
+};
 use plain::{font, lines};
 
 use crate::{original, program::Program, shrink};
 
 /// The line of a font by the plain reading.
-fn by_plain(bytes: &[u8]) -> String {
-    lines::font(&font::read(bytes))
+fn by_plain((file, number): &Numbered) -> String {
+    lines::font(&font::read(file, *number))
 }
 
 /// The line that all sides have to give; none where the original has another.
-fn expected(bytes: &[u8]) -> Option<String> {
-    let plain = by_plain(bytes);
-    let same = original::font(bytes).is_none_or(|line| line == plain);
+fn expected(font: &Numbered) -> Option<String> {
+    let plain = by_plain(font);
+    let same = original::font(font).is_none_or(|line| line == plain);
     same.then_some(plain)
 }
 
@@ -23,19 +29,21 @@ fn expected(bytes: &[u8]) -> Option<String> {
 pub struct Counts {
     pub fonts: u64,
     pub read: u64,
-    /// Of those, fonts with axes.
+    /// Of those, fonts of collections, and fonts with axes.
+    pub collected: u64,
     pub varying: u64,
     /// By the table's number.
-    pub refused: [u64; 30],
+    pub refused: [u64; 31],
 }
 
 impl Counts {
-    fn add(&mut self, line: &str) {
+    fn add(&mut self, (file, _): &Numbered, line: &str) {
         self.fonts += 1;
         match line.strip_prefix("refused ") {
             Some(number) => self.refused[number.parse().unwrap_or(0)] += 1,
             None => {
                 self.read += 1;
+                self.collected += u64::from(fonts_stated(file).is_some());
                 self.varying += u64::from(line.contains('='));
             }
         }
@@ -43,9 +51,10 @@ impl Counts {
 
     pub fn text(&self) -> String {
         format!(
-            "fonts {} read {} with axes {} refused{}\n",
+            "fonts {} read {} from collections {} with axes {} refused{}\n",
             self.fonts,
             self.read,
+            self.collected,
             self.varying,
             numbers(&self.refused)
         )
@@ -57,36 +66,33 @@ pub fn compare(program: &Program, seed: u64, fonts: u64) -> Result<Counts, Strin
     let mut counts = Counts::default();
     let mut seeds = Random::new(seed);
     let list = font_list::list(seed).fonts.into_iter();
-    let mut first: Vec<Vec<u8>> = list.map(|(_, bytes)| bytes).collect();
+    let mut first: Vec<Numbered> = list.map(|(_, font)| font).collect();
     while counts.fonts < fonts {
         // What did not fit is left: the next chunk has a new seed.
         let mut r = Random::new(seeds.draw());
-        let random = std::iter::repeat_with(|| random_font(&mut r));
+        let random = std::iter::repeat_with(|| random_file(&mut r));
         let list = std::mem::take(&mut first).into_iter().chain(random);
         chunk(program, list, fonts, &mut counts)?;
     }
     Ok(counts)
 }
 
-fn put(list: &mut Vec<u8>, font: &[u8]) {
-    list.extend((font.len() as u32).to_be_bytes());
-    list.extend(font);
-}
-
 /// As many fonts as the program reads at once, up to so many in all.
 fn chunk(
     program: &Program,
-    fonts: impl Iterator<Item = Vec<u8>>,
+    fonts: impl Iterator<Item = Numbered>,
     most: u64,
     counts: &mut Counts,
 ) -> Result<(), String> {
     let mut list = Vec::new();
     let mut asked = Vec::new();
     for font in fonts {
-        if list.len() + 4 + font.len() > program.most {
+        let before = list.len();
+        put(&mut list, &font);
+        if list.len() > program.most {
+            list.truncate(before);
             break;
         }
-        put(&mut list, &font);
         asked.push(font);
         if counts.fonts + asked.len() as u64 >= most {
             break;
@@ -95,7 +101,7 @@ fn chunk(
     let lines = program.lines(&list)?;
     for (i, font) in asked.iter().enumerate() {
         match expected(font) {
-            Some(line) if lines.get(i) == Some(&line) => counts.add(&line),
+            Some(line) if lines.get(i) == Some(&line) => counts.add(font, &line),
             _ => return Err(tell(program, font)),
         }
     }
@@ -110,20 +116,21 @@ fn chunk(
     Ok(())
 }
 
-fn printed(program: &Program, font: &[u8]) -> String {
+fn printed(program: &Program, font: &Numbered) -> String {
     let mut list = Vec::new();
     put(&mut list, font);
     program.printed(&list)
 }
 
 /// The shortest font that was found to differ, and what each side says.
-fn tell(program: &Program, font: &[u8]) -> String {
+fn tell(program: &Program, font: &Numbered) -> String {
     let least = shrink::font(font, |font| Some(printed(program, font)) != expected(font));
     let alone = shrink::alone(Some(printed(program, &least)) != expected(&least));
     format!(
-        "difference in a font of {} bytes{alone}: {}\nthe guide (plain): {}\nthe original: {}\nthe proved code: {}",
-        least.len(),
-        hex(&least),
+        "difference in font {} of a file of {} bytes{alone}: {}\nthe guide (plain): {}\nthe original: {}\nthe proved code: {}",
+        least.1,
+        least.0.len(),
+        hex(&least.0),
         by_plain(&least),
         original::font(&least).unwrap_or("nothing".into()),
         printed(program, &least)
@@ -140,7 +147,7 @@ mod tests {
     fn plain_and_original() {
         let mut r = Random::new(8);
         for _ in 0..3000 {
-            let font = random_font(&mut r);
+            let font = random_file(&mut r);
             assert_eq!(original::font(&font), Some(by_plain(&font)));
         }
     }
@@ -149,8 +156,25 @@ mod tests {
     fn no_difference() {
         let counts = compare(&FONT_CASES, 3, 5000).unwrap();
         assert_eq!(counts.fonts, 5000);
-        assert!((21..=23).all(|number| counts.refused[number] > 0));
-        assert!(counts.read > 1000 && counts.varying > 100);
+        assert!(
+            [21, 22, 23, 30]
+                .iter()
+                .all(|number| counts.refused[*number] > 0)
+        );
+        assert!(counts.read > 1000 && counts.varying > 100 && counts.collected > 100);
+    }
+
+    /// A program that prints one refusal for another is told with a small
+    /// file; gives its bytes and what is told.
+    fn told(wrong: Program, right: u32, printed: u32) -> (usize, String) {
+        let told = compare(&wrong, 3, 5000).err().expect("a difference");
+        let size = told.split_once("a file of ").unwrap().1;
+        let size = size.split_once(' ').unwrap().0.parse().unwrap();
+        let guide = format!("the guide (plain): refused {right}");
+        assert!(told.contains(&guide), "{told}");
+        let proved = format!("the proved code: refused {printed}");
+        assert!(told.contains(&proved), "{told}");
+        (size, told)
     }
 
     /// A wrong line is told.
@@ -163,12 +187,22 @@ mod tests {
             },
             ..FONT_CASES
         };
-        let told = compare(&wrong, 3, 5000).err().expect("a difference");
         // Of a font without a charmap no more than the directory is left.
-        let size = told.split_once("a font of ").unwrap().1;
-        let size: usize = size.split_once(' ').unwrap().0.parse().unwrap();
+        let (size, told) = told(wrong, 22, 21);
         assert!(size < 50, "{told}");
-        assert!(told.contains("the guide (plain): refused 22"), "{told}");
-        assert!(told.contains("the proved code: refused 21"), "{told}");
+    }
+
+    /// So is a number at the count that is taken for a bad font.
+    #[test]
+    fn wrong_numbers_are_told() {
+        let wrong = Program {
+            run: |_, list| {
+                let text = (FONT_CASES.run)(&FONT_CASES, list)?;
+                Ok(text.replace("refused 30", "refused 21"))
+            },
+            ..FONT_CASES
+        };
+        let (size, told) = told(wrong, 30, 21);
+        assert_eq!(size, 12, "{told}");
     }
 }

@@ -5,7 +5,7 @@ use std::{
     panic::{self, AssertUnwindSafe},
 };
 
-use jobs::{bytes::hex, counts, damage::Expected, list::Case};
+use jobs::{bytes::hex, counts, layout, list::Case};
 use stemhook::limits::{OFFER_BYTES, REQUESTS};
 
 use crate::{
@@ -166,10 +166,12 @@ pub struct Counts {
 }
 
 impl Counts {
-    fn add(&mut self, said: &Said, expected: Expected) {
+    fn add(&mut self, said: &Said, case: &Case) {
         let (number, position) = said.answer();
-        self.all.job(expected, number, position);
+        self.all.job(case.expected, number, position);
         if let Said::Offers(lists) = said {
+            let job = layout::parts(&case.bytes);
+            self.all.faces(&job.expect("an accepted job has its parts"));
             for list in lists {
                 self.all.request(list);
                 self.longest = self.longest.max(list.len());
@@ -181,8 +183,9 @@ impl Counts {
     pub fn text(&self) -> String {
         let (all, longest) = (&self.all, self.longest);
         format!(
-            "{}requests {} {} longest list {longest}\n",
+            "{}{}\nrequests {} {} longest list {longest}\n",
             all.jobs_text(),
+            all.faces_text(),
             all.requests,
             all.offers_text(),
         )
@@ -228,7 +231,7 @@ impl Sides {
                 self.tell(&case.bytes)
             ));
         }
-        self.counts.add(&said, case.expected);
+        self.counts.add(&said, case);
         Ok(())
     }
 

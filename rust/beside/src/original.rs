@@ -11,7 +11,7 @@ pub type Family = [(Vec<u8>, String); 2];
 
 #[cfg(feature = "original")]
 mod here {
-    use jobs::{families::Case, overrides};
+    use jobs::{families::Case, fonts::Numbered, overrides};
     use reference::{describe, families, offers::Harness};
 
     use super::{Family, Lists};
@@ -40,8 +40,8 @@ mod here {
     }
 
     /// The line of a font.
-    pub fn font(bytes: &[u8]) -> Option<String> {
-        Some(describe::line(bytes))
+    pub fn font((file, number): &Numbered) -> Option<String> {
+        Some(describe::line(file, *number))
     }
 
     /// The line of a face by value.
@@ -52,7 +52,7 @@ mod here {
 
 #[cfg(not(feature = "original"))]
 mod here {
-    use jobs::{families::Case, overrides};
+    use jobs::{families::Case, fonts::Numbered, overrides};
 
     use super::{Family, Lists};
 
@@ -73,7 +73,7 @@ mod here {
         None
     }
 
-    pub fn font(_bytes: &[u8]) -> Option<String> {
+    pub fn font(_font: &Numbered) -> Option<String> {
         None
     }
 

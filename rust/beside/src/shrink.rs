@@ -6,6 +6,7 @@ use std::{ops::Range, panic};
 
 use jobs::{
     families,
+    fonts::Numbered,
     layout::{self, Job},
 };
 
@@ -224,27 +225,25 @@ impl Input for families::Case {
     }
 }
 
-/// The bytes of a font: what is not dropped may become zero.
-#[derive(Clone)]
-struct FontBytes(Vec<u8>);
-
-impl Input for FontBytes {
+/// Of a file what is not dropped may become zero, and so may the font number.
+impl Input for Numbered {
     fn size(&self) -> usize {
         self.0.len()
     }
 
     fn smaller(&self) -> Box<dyn Iterator<Item = Self> + '_> {
-        let set = (0..self.0.len()).filter(|at| self.0[*at] != 0);
+        let (file, number) = self;
+        let shorter = file.smaller().map(|file| (file, *number));
+        let set = (0..file.len()).filter(|at| file[*at] != 0);
         let zeros = set.map(|at| changed(self, |next| next.0[at] = 0));
-        Box::new(self.0.smaller().map(Self).chain(zeros))
+        let first = (*number != 0).then(|| (file.clone(), 0));
+        Box::new(shorter.chain(first).chain(zeros))
     }
 }
 
-/// A shorter font that differs still, or one with more zeros.
-pub fn font(bytes: &[u8], mut differs: impl FnMut(&[u8]) -> bool) -> Vec<u8> {
-    let start = FontBytes(bytes.to_vec());
-    let mut differs = |font: &FontBytes| differs(&font.0);
-    descend(start, Budget::new(TRIES / 2), &mut differs).0
+/// A shorter file that differs still, or one with more zeros.
+pub fn font(font: &Numbered, mut differs: impl FnMut(&Numbered) -> bool) -> Numbered {
+    descend(font.clone(), Budget::new(TRIES / 2), &mut differs)
 }
 
 #[cfg(test)]
@@ -267,8 +266,11 @@ mod tests {
     #[test]
     fn fonts_shrink() {
         let bytes: Vec<u8> = (0..200).collect();
-        let least = font(&bytes, |bytes| bytes.contains(&7) && bytes.contains(&150));
-        assert_eq!(least, [7, 150]);
+        let start = (bytes, 300);
+        let least = font(&start, |(file, _)| file.contains(&7) && file.contains(&150));
+        assert_eq!(least, (vec![7, 150], 0));
+        let numbered = font(&start, |(file, number)| file.len() > 3 && *number > 4);
+        assert_eq!(numbered, (vec![0; 4], 300));
     }
 
     #[test]

@@ -122,22 +122,102 @@ pub fn font_with_gaps(
     tables: &[Table],
     mut gap: impl FnMut(usize) -> usize,
 ) -> Vec<u8> {
-    let mut out = start.to_vec();
-    out.extend((tables.len() as u16).to_be_bytes());
-    out.extend(filler(6, 7));
-    out.resize(record(tables.len()), 0);
-    for (i, (tag, bytes)) in tables.iter().enumerate() {
+    let mut out = directory(start, tables.len());
+    for (i, table) in tables.iter().enumerate() {
         let gap = gap(i);
         out.extend(filler(gap, 8));
         let offset = out.len() as u32;
-        let at = record(i);
-        out[at..at + 4].copy_from_slice(tag);
-        put32(&mut out, at + 4, 0x5eed_0000 + i as u32);
-        put32(&mut out, at + 8, offset);
-        put32(&mut out, at + 12, bytes.len() as u32);
-        out.extend(bytes);
+        put_record(&mut out, i, table, offset);
+        out.extend(&table.1);
     }
     out
+}
+
+/// A font's header, and room for so many records.
+fn directory(start: [u8; 4], tables: usize) -> Vec<u8> {
+    let mut out = start.to_vec();
+    out.extend((tables as u16).to_be_bytes());
+    out.extend(filler(6, 7));
+    out.resize(record(tables), 0);
+    out
+}
+
+/// The directory's record of a table that stands at the offset.
+fn put_record(directory: &mut [u8], number: usize, (tag, bytes): &Table, offset: u32) {
+    let at = record(number);
+    directory[at..at + 4].copy_from_slice(tag);
+    put32(directory, at + 4, 0x5eed_0000 + number as u32);
+    set_offset(directory, number, offset);
+    set_length(directory, number, bytes.len() as u32);
+}
+
+/// Bytes of a collection's header, before its offsets.
+pub const HEADER: usize = 12;
+
+/// How many fonts a collection says it has; none where the file is no
+/// collection or has no whole header.
+pub fn fonts_stated(file: &[u8]) -> Option<u32> {
+    let header = file.starts_with(b"ttcf") && file.len() >= HEADER;
+    header.then(|| get32(file, 8))
+}
+
+/// Where a collection's offset of the given number stands.
+pub fn font_offset(number: usize) -> usize {
+    HEADER + 4 * number
+}
+
+/// A font of a collection: its start and its tables.
+pub type Member = ([u8; 4], Vec<Table>);
+
+/// A collection's header and offsets; version 2 has three fields of a
+/// signature behind them.
+pub fn collection_header(version: u16, offsets: &[u32]) -> Vec<u8> {
+    let mut out = b"ttcf".to_vec();
+    out.extend(version.to_be_bytes());
+    out.extend([0, 0]);
+    out.extend((offsets.len() as u32).to_be_bytes());
+    for offset in offsets {
+        out.extend(offset.to_be_bytes());
+    }
+    if version == 2 {
+        out.extend(filler(12, 10));
+    }
+    out
+}
+
+/// A collection in which equal tables stand once. A font's directory stands
+/// before the tables, or after them where `last` says so.
+pub fn collection(version: u16, fonts: &[Member], last: impl Fn(usize) -> bool) -> Vec<u8> {
+    let mut out = collection_header(version, &vec![0; fonts.len()]);
+    put_directories(&mut out, fonts, |i| !last(i));
+    let mut placed: Vec<(&Table, u32)> = Vec::new();
+    for table in fonts.iter().flat_map(|(_, tables)| tables) {
+        if placed.iter().all(|(other, _)| *other != table) {
+            placed.push((table, out.len() as u32));
+            out.extend(&table.1);
+        }
+    }
+    put_directories(&mut out, fonts, &last);
+    for (i, (_, tables)) in fonts.iter().enumerate() {
+        let directory = get32(&out, font_offset(i)) as usize;
+        for (number, table) in tables.iter().enumerate() {
+            let same = placed.iter().find(|(other, _)| *other == table);
+            let offset = same.expect("every table has its place").1;
+            put_record(&mut out[directory..], number, table, offset);
+        }
+    }
+    out
+}
+
+/// Directories without their records, of the fonts that are named, and their offsets.
+fn put_directories(out: &mut Vec<u8>, fonts: &[Member], named: impl Fn(usize) -> bool) {
+    for (i, (start, tables)) in fonts.iter().enumerate() {
+        if named(i) {
+            let offset = out.len() as u32;
+            put32(out, font_offset(i), offset);
+            out.extend(directory(*start, tables.len()));
+        }
+    }
 }
 
 /// Where the directory's record of the given number starts.

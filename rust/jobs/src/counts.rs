@@ -4,16 +4,19 @@ use std::fmt::Write as _;
 
 use plain::offers::OUTPUT;
 
-use crate::damage::Expected;
+use crate::{bytes::fonts_stated, damage::Expected, layout::Job};
 
 #[derive(Copy, Clone, Default, PartialEq, Eq, Debug)]
 pub struct Counts {
     pub jobs: u64,
     pub accepted: u64,
     /// By the table's number.
-    pub refused: [u64; 30],
+    pub refused: [u64; 31],
     /// Jobs whose answer is the one known by how they were built.
     pub known: u64,
+    /// Faces of accepted jobs, and those of them from collections.
+    pub faces: u64,
+    pub collected: u64,
     pub requests: u64,
     pub offers: u64,
     /// Offers with embolden, a skew, or settings.
@@ -29,6 +32,16 @@ impl Counts {
             0 => self.accepted += 1,
             _ => self.refused[number as usize] += 1,
         }
+    }
+
+    /// The faces of a job that is accepted.
+    pub fn faces(&mut self, job: &Job<&[u8]>) {
+        let collected = job
+            .faces
+            .iter()
+            .filter(|face| fonts_stated(face.font).is_some());
+        self.faces += job.faces.len() as u64;
+        self.collected += collected.count() as u64;
     }
 
     /// A request by the records of its offers.
@@ -48,6 +61,11 @@ impl Counts {
             numbers(&self.refused),
             self.known,
         )
+    }
+
+    /// The faces, without a line end.
+    pub fn faces_text(&self) -> String {
+        format!("faces {} from collections {}", self.faces, self.collected)
     }
 
     /// The offers, without a line end.

@@ -3,6 +3,7 @@
 use plain::job::{FACES, FAMILIES};
 
 use crate::{
+    bytes::{fonts_stated, get32},
     fonts,
     layout::{Field, Kind, Written},
     random::Random,
@@ -15,19 +16,23 @@ pub enum Expected {
     Accepted,
     /// The table's number and the field's position.
     Refused(u32, usize),
+    /// The same at a font number, and the position of its font's length: what
+    /// else the font is refused for is met later.
+    AtNumber(u32, usize, usize),
     Unknown,
 }
 
-use Expected::{Accepted, Refused, Unknown};
+use Expected::{Accepted, AtNumber, Refused, Unknown};
 
 impl Expected {
     /// Whether an answer, 0 for an accepted job, can be the right one.
     pub fn allows(self, number: u32, position: usize) -> bool {
-        let font = (21..=23).contains(&number);
+        let font = matches!(number, 21..=23 | 30);
         match self {
             Unknown => true,
             Accepted => number == 0 || font,
             Refused(n, at) => (number, position) == (n, at) || (font && position < at),
+            AtNumber(n, at, length) => (number, position) == (n, at) || (font && position < length),
         }
     }
 
@@ -36,7 +41,15 @@ impl Expected {
         match self {
             Unknown => false,
             Accepted => number == 0,
-            Refused(n, at) => (number, position) == (n, at),
+            Refused(n, at) | AtNumber(n, at, _) => (number, position) == (n, at),
+        }
+    }
+
+    /// Where it is refused, if that is known.
+    fn position(self) -> Option<usize> {
+        match self {
+            Refused(_, at) | AtNumber(_, at, _) => Some(at),
+            Accepted | Unknown => None,
         }
     }
 }
@@ -122,6 +135,7 @@ fn values(written: &Written, field: Field) -> Vec<(Expected, Vec<u32>)> {
         ],
         Kind::Length => lengths(written, field, present),
         Kind::File => vec![],
+        Kind::FontNumber => font_numbers(written, field),
         Kind::FaceNumber(faces) => {
             let faces = u32::from(faces);
             let over = [faces, faces + 1, 0x8000, 0xffff];
@@ -183,6 +197,26 @@ fn lengths(written: &Written, field: Field, present: u32) -> Vec<(Expected, Vec<
     ]
 }
 
+/// Font numbers below the count of the collection before them, and others.
+fn font_numbers(written: &Written, field: Field) -> Vec<(Expected, Vec<u32>)> {
+    let file = file_before(written, field);
+    let count = get32(&written.bytes, file.at + 8);
+    let (below, over) = [0, 1, count.wrapping_sub(1), count, count.wrapping_add(1)]
+        .into_iter()
+        .chain([0x00ff, 0x0100, 0x8000, 0xffff])
+        .filter(|number| *number <= 0xffff)
+        .partition(|number| *number < count);
+    let refused = AtNumber(30, field.at, file.at - 4);
+    vec![(refused, over), (Accepted, below)]
+}
+
+/// The collection that a font number stands behind.
+fn file_before(written: &Written, number: Field) -> Field {
+    let before = |field: &&Field| field.at + field.size == number.at;
+    let file = written.fields.iter().find(before);
+    *file.expect("a collection before its font number")
+}
+
 /// The bytes with every way done, no two on one field, and what is known of
 /// them: the refusal that is met first.
 pub fn with_ways(written: &Written, ways: &[Way]) -> (Vec<u8>, Expected) {
@@ -202,16 +236,15 @@ pub fn with_ways(written: &Written, ways: &[Way]) -> (Vec<u8>, Expected) {
 
 /// The first `length` bytes: refused at the field that no longer fits.
 pub fn cut(written: &Written, length: usize) -> (Vec<u8>, Expected) {
-    let mut position = 0;
-    for field in &written.fields {
-        if field.kind != Kind::File {
-            position = field.at;
-        }
-        if field.at + field.size > length {
-            break;
-        }
-    }
-    (written.bytes[..length].to_vec(), Refused(18, position))
+    let mut fields = written.fields.iter();
+    let field = fields.find(|field| field.at + field.size > length);
+    let field = *field.expect("a field that is cut");
+    let expected = match field.kind {
+        Kind::File => Refused(18, field.at - 4),
+        Kind::FontNumber => AtNumber(18, field.at, file_before(written, field).at - 4),
+        _ => Refused(18, field.at),
+    };
+    (written.bytes[..length].to_vec(), expected)
 }
 
 /// The same with more bytes after its end.
@@ -237,6 +270,7 @@ fn random_way(r: &mut Random, written: &Written) -> Option<Way> {
         11 => Kind::FaceNumber(u16::from_be_bytes([written.bytes[0], written.bytes[1]])),
         12 => Kind::Count(FACES),
         13 => Kind::Count(FAMILIES),
+        14 => Kind::FontNumber,
         _ => first.kind,
     };
     let fields: Vec<Field> = written
@@ -323,7 +357,7 @@ fn several(r: &mut Random, written: &Written) -> (Vec<u8>, Expected) {
     let (bytes, cut) = cut(&damaged, length);
     let expected = match (expected, cut) {
         // A length that lies past the end does so still.
-        (Refused(number, at), Refused(_, end)) if at < end => Refused(number, at),
+        (met, cut) if met.position().is_some_and(|at| Some(at) < cut.position()) => met,
         // A file that is told to be short may lie before the cut.
         (Refused(21, at), Refused(_, end)) if at == end => Unknown,
         (Unknown, _) => Unknown,
@@ -345,10 +379,14 @@ fn font(r: &mut Random, written: &Written) -> (Vec<u8>, Expected) {
     }
     let field = r.pick(&files);
     let mut file = written.bytes[field.at..field.at + field.size].to_vec();
-    let tables = usize::from(u16::from_be_bytes([file[4], file[5]]));
-    // A font that is damaged already may count more tables than it has.
-    let tables = tables.min((file.len() - 12) / 16);
-    fonts::damage(r, &mut file, tables);
+    if fonts_stated(&file).is_some() {
+        fonts::damage_collection(r, &mut file);
+    } else {
+        let tables = usize::from(u16::from_be_bytes([file[4], file[5]]));
+        // A font that is damaged already may count more tables than it has.
+        let tables = tables.min((file.len() - 12) / 16);
+        fonts::damage(r, &mut file, tables);
+    }
     let mut bytes = written.bytes[..field.at - 4].to_vec();
     bytes.extend((file.len() as u32).to_be_bytes());
     bytes.extend(file);

@@ -1,8 +1,13 @@
 //! The list of small fonts: those made for a purpose, then random ones.
 
-use crate::{bytes::*, fonts::random_font, random::Random};
+use crate::{
+    bytes::*,
+    fonts::{Numbered, random_file},
+    random::Random,
+};
 
 mod cmap;
+mod collections;
 mod fvar;
 mod states;
 
@@ -11,12 +16,24 @@ const RANDOM_FONTS: usize = 360;
 
 #[derive(Default)]
 pub struct List {
-    pub fonts: Vec<(String, Vec<u8>)>,
+    pub fonts: Vec<(String, Numbered)>,
+}
+
+/// A font as it stands in the list: the length, the file, the font number.
+pub fn put(list: &mut Vec<u8>, (file, number): &Numbered) {
+    list.extend((file.len() as u32).to_be_bytes());
+    list.extend(file);
+    list.extend(number.to_be_bytes());
 }
 
 impl List {
     fn add(&mut self, label: impl Into<String>, bytes: Vec<u8>) {
-        self.fonts.push((label.into(), bytes));
+        self.fonts.push((label.into(), (bytes, 0)));
+    }
+
+    fn add_numbered(&mut self, label: &str, file: &[u8], number: u16) {
+        let label = format!("{label}, font {number}");
+        self.fonts.push((label, (file.to_vec(), number)));
     }
 
     /// A font with a plain `cmap` after the given tables.
@@ -39,10 +56,11 @@ pub fn list(seed: u64) -> List {
     fvar::fvar_shapes(&mut list);
     cmap::cmap_shapes(&mut list);
     orders_of_refusal(&mut list);
+    collections::collections(&mut list);
     let mut r = Random::new(seed);
     for i in 0..RANDOM_FONTS {
-        let bytes = random_font(&mut r);
-        list.add(format!("random {i}"), bytes);
+        let font = random_file(&mut r);
+        list.fonts.push((format!("random {i}"), font));
     }
     list
 }
@@ -315,8 +333,9 @@ mod tests {
     #[test]
     fn list_is_small_and_repeats() {
         let one = list(1);
-        let size: usize = one.fonts.iter().map(|(_, bytes)| 4 + bytes.len()).sum();
-        assert!(size < 200_000, "{size}");
+        let mut bytes = Vec::new();
+        one.fonts.iter().for_each(|(_, font)| put(&mut bytes, font));
+        assert!(bytes.len() <= 262_144, "{}", bytes.len());
         assert_eq!(one.fonts, list(1).fonts);
     }
 }

@@ -86,6 +86,13 @@ fn random_table(r: &mut Random, tag: [u8; 4]) -> Table {
 
 /// A small font, with damage in about two thirds of them.
 pub fn random_font(r: &mut Random) -> Vec<u8> {
+    let (start, tables) = random_member(r);
+    let mut bytes = font_with_gaps(start, &tables, |_| r.pick(&[0, 0, 0, 1, 2, 3]));
+    damage(r, &mut bytes, tables.len());
+    bytes
+}
+
+fn random_member(r: &mut Random) -> Member {
     let start = match r.below(24) {
         0 => r.bits().to_be_bytes(),
         1..=4 => *b"OTTO",
@@ -112,9 +119,150 @@ pub fn random_font(r: &mut Random) -> Vec<u8> {
     for i in (1..tables.len()).rev() {
         tables.swap(i, r.below(i + 1));
     }
-    let mut bytes = font_with_gaps(start, &tables, |_| r.pick(&[0, 0, 0, 1, 2, 3]));
-    damage(r, &mut bytes, tables.len());
-    bytes
+    (start, tables)
+}
+
+/// A font file and the number of a font in it.
+pub type Numbered = (Vec<u8>, u16);
+
+/// A small font by itself, or in one of six a collection.
+pub fn random_file(r: &mut Random) -> Numbered {
+    if r.chance(1, 6) {
+        return random_collection(r);
+    }
+    let bytes = random_font(r);
+    // Behind a font by itself only 0 is a font's number.
+    let number = if r.chance(1, 16) { over(r, 1) } else { 0 };
+    (bytes, number)
+}
+
+/// A number that is not below the count.
+fn over(r: &mut Random, count: u16) -> u16 {
+    r.pick(&[count, count, count + 1, 0x0100, 0x8000, 0xffff])
+}
+
+/// The number of one of so many fonts, or of none in one of `wrong` cases.
+pub fn font_number(r: &mut Random, count: usize, wrong: usize) -> u16 {
+    if r.chance(1, wrong) {
+        over(r, count as u16)
+    } else {
+        r.below(count) as u16
+    }
+}
+
+/// Which directories stand after the tables: none of them, all, or some.
+pub fn random_last(r: &mut Random) -> impl Fn(usize) -> bool + use<> {
+    let bits = r.pick(&[0b0000, 0b0000, 0b1111, 0b0101, 0b1010, 0b0110]);
+    move |i| bits >> i & 1 == 1
+}
+
+/// One to four fonts over common tables, half of the collections damaged.
+fn random_collection(r: &mut Random) -> Numbered {
+    let mut fonts: Vec<Member> = Vec::new();
+    for _ in 0..r.within(1, 4) {
+        let (start, mut tables) = random_member(r);
+        if let Some((_, earlier)) = fonts.last() {
+            share(r, &mut tables, earlier);
+        }
+        fonts.push((start, tables));
+    }
+    let last = random_last(r);
+    let mut bytes = collection(r.pick(&[1, 1, 2]), &fonts, last);
+    let number = font_number(r, fonts.len(), 8);
+    damage_collection(r, &mut bytes);
+    (bytes, number)
+}
+
+/// Takes some of the tables from another font.
+fn share(r: &mut Random, tables: &mut [Table], from: &[Table]) {
+    for table in tables {
+        let same = from.iter().find(|(tag, _)| *tag == table.0);
+        if let Some(same) = same
+            && r.chance(1, 2)
+        {
+            *table = same.clone();
+        }
+    }
+}
+
+/// None in half of the collections; else the count, an offset, a record, a
+/// few bytes or the end.
+pub fn damage_collection(r: &mut Random, bytes: &mut Vec<u8>) {
+    let Some(count) = fonts_stated(bytes) else {
+        return;
+    };
+    // As many offsets as there are.
+    let offsets = (count as usize).min((bytes.len() - HEADER) / 4);
+    match r.below(16) {
+        0..=7 => {}
+        8 => put32(bytes, 8, wrong_count(r, count)),
+        9..=10 if offsets > 0 => {
+            let at = font_offset(r.below(offsets));
+            let offset = wrong_offset(r, get32(bytes, at), bytes.len() as u32);
+            put32(bytes, at, offset);
+        }
+        11..=12 if offsets > 0 => damage_member(r, bytes, offsets),
+        13 => {
+            let left = r.below(font_offset(offsets) + 1);
+            bytes.truncate(left);
+        }
+        14 => {
+            let left = r.below(bytes.len() + 1);
+            bytes.truncate(left);
+        }
+        _ => {
+            for _ in 0..r.within(1, 3) {
+                let at = r.below(bytes.len());
+                bytes[at] ^= 1 << r.below(8);
+            }
+        }
+    }
+}
+
+/// 0, a little off, or so large that the offsets' end would wrap.
+fn wrong_count(r: &mut Random, count: u32) -> u32 {
+    let near = [0, count.wrapping_sub(1), count.wrapping_add(1)];
+    let far = [0x0001_0000, 1 << 30, 1 << 31, 3 << 30].map(|far| count.wrapping_add(far));
+    let far = if r.chance(1, 8) {
+        r.bits()
+    } else {
+        r.pick(&far)
+    };
+    let near = r.pick(&near);
+    r.pick(&[near, far])
+}
+
+/// The collection's own start, around the last place of a header, or beyond.
+fn wrong_offset(r: &mut Random, offset: u32, length: u32) -> u32 {
+    let end = length.wrapping_sub(12);
+    r.pick(&[
+        0,
+        12,
+        end,
+        end.wrapping_add(1),
+        length,
+        offset.wrapping_add(1),
+        offset.wrapping_sub(1),
+        offset | 1 << 31,
+        0xffff_fff4,
+        0xffff_ffff,
+    ])
+}
+
+/// A table's record of one of the fonts, or its table count, a little off.
+fn damage_member(r: &mut Random, bytes: &mut [u8], offsets: usize) {
+    let start = get32(bytes, font_offset(r.below(offsets))) as usize;
+    let Some(font) = bytes.get_mut(start..).filter(|font| font.len() >= 12) else {
+        return;
+    };
+    let stated = usize::from(u16::from_be_bytes([font[4], font[5]]));
+    let tables = stated.min((font.len() - 12) / 16);
+    if tables > 0 && r.chance(3, 4) {
+        damage_record(r, font, tables);
+    } else {
+        let count = r.pick(&[stated + 1, stated.saturating_sub(1), 0xff]);
+        put16(font, 4, count as u16);
+    }
 }
 
 /// None in a third of the fonts; else a few bytes, a record or the end.

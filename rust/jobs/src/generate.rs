@@ -1,8 +1,11 @@
 //! Random jobs that keep the layout; boundaries and ties are common.
 
 use crate::{
-    bytes::{FixedAxis, START, Table, cmap, filler, font_with_gaps, fvar, head, os2, post},
-    fonts::{CLASSES, random_font},
+    bytes::{
+        FixedAxis, Member, START, Table, cmap, collection, filler, font_with_gaps, fvar, head, os2,
+        post,
+    },
+    fonts::{CLASSES, font_number, random_file, random_last},
     layout::{Face, Job, Override, Request, Style},
     numbers::{BANDS, TAGS, nearby, some, style, weight},
     pools::{Pools, near},
@@ -123,11 +126,76 @@ fn small_cmap(r: &mut Random) -> Vec<u8> {
     cmap(&records, count + 1)
 }
 
-/// A font that is accepted, mostly; now and then any font of the builder's.
-fn font_file(r: &mut Random, spread: Spread, pools: &Pools, bare: bool) -> Vec<u8> {
-    if r.chance(1, 150) {
-        return random_font(r);
+/// What the fonts of one job are drawn from.
+#[derive(Copy, Clone)]
+struct Fonts<'a> {
+    spread: Spread,
+    pools: &'a Pools,
+    /// No attributes of their own.
+    bare: bool,
+    /// Held in so many of four.
+    held: usize,
+}
+
+/// So many faces, in one of six from a collection.
+fn faces(r: &mut Random, count: usize, fonts: Fonts<'_>) -> Vec<Face> {
+    let mut out = Vec::new();
+    while out.len() < count {
+        let left = count - out.len();
+        if r.chance(1, 10) {
+            collection_faces(r, left, fonts, &mut out);
+        } else {
+            out.push(face(r, fonts));
+        }
     }
+    out
+}
+
+/// A face of a font that is accepted, mostly; now and then of any file of the builder's.
+fn face(r: &mut Random, fonts: Fonts<'_>) -> Face {
+    let (font, number) = if r.chance(1, 150) {
+        random_file(r)
+    } else {
+        let (start, tables) = font(r, fonts);
+        let file = font_with_gaps(start, &tables, |_| r.pick(&[0, 0, 0, 0, 1, 3]));
+        (file, 0)
+    };
+    Face {
+        held: r.chance(fonts.held, 4),
+        font,
+        number,
+    }
+}
+
+/// Up to three faces of one collection, whose fonts have one `cmap` or several.
+fn collection_faces(r: &mut Random, left: usize, fonts: Fonts<'_>, out: &mut Vec<Face>) {
+    let mut members = some(r, 1, 3, |r| font(r, fonts));
+    if r.chance(1, 2) {
+        let common = small_cmap(r);
+        for (_, tables) in &mut members {
+            let own = tables.iter_mut().find(|(tag, _)| tag == b"cmap");
+            own.expect("every font has a cmap").1 = common.clone();
+        }
+    }
+    let last = random_last(r);
+    let file = collection(r.pick(&[1, 1, 2]), &members, last);
+    for _ in 0..r.within(1, 3).min(left) {
+        out.push(Face {
+            held: r.chance(fonts.held, 4),
+            font: file.clone(),
+            number: font_number(r, members.len(), 60),
+        });
+    }
+}
+
+/// The start and the tables of a font that is accepted, mostly.
+fn font(r: &mut Random, fonts: Fonts<'_>) -> Member {
+    let Fonts {
+        spread,
+        pools,
+        bare,
+        ..
+    } = fonts;
     let mut tables: Vec<Table> = vec![(*b"cmap", small_cmap(r))];
     if !bare && r.chance(3, 10) {
         let weight = r.pick(&[100, 300, 400, 400, 500, 700, 900, 65535]);
@@ -158,7 +226,7 @@ fn font_file(r: &mut Random, spread: Spread, pools: &Pools, bare: bool) -> Vec<u
     let turn = r.below(tables.len());
     tables.rotate_left(turn);
     let start = r.pick(&[START, START, START, *b"OTTO", *b"true"]);
-    font_with_gaps(start, &tables, |_| r.pick(&[0, 0, 0, 0, 1, 3]))
+    (start, tables)
 }
 
 fn override_entry(r: &mut Random, face: usize, pools: &Pools) -> Override {
@@ -317,24 +385,20 @@ pub fn job(r: &mut Random) -> Job {
     let shape = shape(r);
     let pools = pools(r);
     let spread = spread(r);
-    let faces = match shape {
+    let count = match shape {
         Shape::ManyFaces => r.pick(&[40, 100, 255, 256]),
         _ if r.chance(1, 40) => 0,
         _ => r.pick(&[1, 2, 2, 3, 3, 4, 4, 5, 6, 8, 12]),
     };
     // Many faces are small ones.
-    let spread = if shape == Shape::ManyFaces {
-        Spread::Bare
-    } else {
-        spread
+    let bare = shape == Shape::ManyFaces;
+    let fonts = Fonts {
+        spread: if bare { Spread::Bare } else { spread },
+        pools: &pools,
+        bare,
+        held: r.pick(&[1, 3, 4, 4]),
     };
-    let held = r.pick(&[1, 3, 4, 4]);
-    let faces: Vec<Face> = (0..faces)
-        .map(|_| Face {
-            held: r.chance(held, 4),
-            font: font_file(r, spread, &pools, shape == Shape::ManyFaces),
-        })
-        .collect();
+    let faces = faces(r, count, fonts);
     let families = families(r, shape, faces.len());
     let count = match shape {
         Shape::ManyRequests => r.pick(&[30, 255, 256]),

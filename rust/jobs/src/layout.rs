@@ -2,6 +2,8 @@
 
 use plain::job::{FACES, FAMILIES, OVERRIDES, PLACES, REQUESTS};
 
+use crate::bytes::fonts_stated;
+
 /// A job as its parts; what stands in them need not be accepted. Fonts are
 /// its own, or borrowed from the job's bytes.
 #[derive(Clone, PartialEq, Eq, Default, Debug)]
@@ -17,6 +19,8 @@ pub struct Job<F = Vec<u8>> {
 pub struct Face<F = Vec<u8>> {
     pub held: bool,
     pub font: F,
+    /// The font number, written behind a collection alone.
+    pub number: u16,
 }
 
 /// Kind byte and the bits of the angle, zero unless the kind is 3.
@@ -72,6 +76,8 @@ pub enum Kind {
     Length,
     /// The font file; its position is that of the length.
     File,
+    /// The font number behind a collection.
+    FontNumber,
     /// Below the number of faces.
     FaceNumber(u16),
     Mask,
@@ -188,6 +194,9 @@ pub fn write<F: AsRef<[u8]>>(job: &Job<F>) -> Written {
         let font = face.font.as_ref();
         out.put32(Kind::Length, font.len() as u32);
         out.put(Kind::File, font);
+        if fonts_stated(font).is_some() {
+            out.put16(Kind::FontNumber, usize::from(face.number));
+        }
     }
     out.put16(Kind::Count(OVERRIDES), job.overrides.len());
     for given in &job.overrides {
@@ -217,7 +226,11 @@ pub fn parts(bytes: &[u8]) -> Option<Job<&[u8]>> {
         let held = rest.u8()? == 1;
         let length = rest.u32()? as usize;
         let font = rest.take(length)?;
-        job.faces.push(Face { held, font });
+        let number = match fonts_stated(font) {
+            Some(_) => rest.u16()?,
+            None => 0,
+        };
+        job.faces.push(Face { held, font, number });
     }
     for _ in 0..rest.u16()? {
         job.overrides.push(rest.override_entry()?);

@@ -71,7 +71,11 @@ fn font(weight: u16, class: usize, axes: u8, gap: usize) -> Vec<u8> {
 }
 
 fn face(held: bool, font: Vec<u8>) -> Face {
-    Face { held, font }
+    Face {
+        held,
+        font,
+        number: 0,
+    }
 }
 
 fn style(kind: u8) -> Style {

@@ -101,9 +101,31 @@ impl Font {
 /// Most axes of a face.
 pub const AXES: usize = 16;
 
-/// Reads a font file, or gives the number of its refusal: 21, 22 or 23.
-pub fn read(file: &[u8]) -> Result<Font, u32> {
-    let directory = directory(file).ok_or(21u32)?;
+/// Whether the file starts as a collection.
+pub fn is_collection(file: &[u8]) -> bool {
+    file.starts_with(b"ttcf")
+}
+
+/// Bytes of a font's header, and of a collection's up to its offsets.
+pub const HEADER: usize = 12;
+
+/// How many fonts the file has: a collection says it, and has none where its
+/// header is cut; another has one.
+pub fn count(file: &[u8]) -> u32 {
+    if !is_collection(file) {
+        1
+    } else if file.len() < HEADER {
+        0
+    } else {
+        u32_at(file, 8)
+    }
+}
+
+/// Reads the font of the number, or gives the number of its refusal: 21, 30,
+/// 22 or 23.
+pub fn read(file: &[u8], number: u16) -> Result<Font, u32> {
+    let start = directory_start(file, number)?;
+    let directory = directory(file, start).ok_or(21u32)?;
     let charmap = charmap(file, &directory).ok_or(22u32)?;
     let axes = axes(file, &directory);
     if axes.len() > AXES {
@@ -139,32 +161,53 @@ struct Record {
     length: u64,
 }
 
-/// The records, or none for a bad start or a directory past the file.
-fn directory(file: &[u8]) -> Option<Vec<Record>> {
-    if file.len() < 12 {
+/// Where the directory of the numbered font begins, or its refusal: 21 or 30.
+fn directory_start(file: &[u8], number: u16) -> Result<usize, u32> {
+    if file.len() < HEADER {
+        return Err(21);
+    }
+    let count = count(file);
+    if u32::from(number) >= count {
+        return Err(30);
+    }
+    if !is_collection(file) {
+        return Ok(0);
+    }
+    // Every offset that the count states lies in the file.
+    if HEADER as u64 + 4 * u64::from(count) > file.len() as u64 {
+        return Err(21);
+    }
+    Ok(u32_at(file, HEADER + 4 * usize::from(number)) as usize)
+}
+
+/// The records of the directory at `start`, or none for a bad start or a
+/// directory past the file.
+fn directory(file: &[u8], start: usize) -> Option<Vec<Record>> {
+    let font = file.get(start..)?;
+    if font.len() < HEADER {
         return None;
     }
-    let start = tag_at(file, 0);
+    let start = tag_at(font, 0);
     if start != [0x00, 0x01, 0x00, 0x00] && start != *b"OTTO" && start != *b"true" {
         return None;
     }
-    let count = usize::from(u16_at(file, 4));
-    if 12 + 16 * count > file.len() {
+    let count = usize::from(u16_at(font, 4));
+    if HEADER + 16 * count > font.len() {
         return None;
     }
     let mut records = Vec::new();
     for i in 0..count {
-        let at = 12 + 16 * i;
+        let at = HEADER + 16 * i;
         records.push(Record {
-            tag: tag_at(file, at),
-            offset: u64::from(u32_at(file, at + 8)),
-            length: u64::from(u32_at(file, at + 12)),
+            tag: tag_at(font, at),
+            offset: u64::from(u32_at(font, at + 8)),
+            length: u64::from(u32_at(font, at + 12)),
         });
     }
     Some(records)
 }
 
-/// The offset and the bytes of a table, absent as section 2 has it.
+/// The offset in the file and the bytes of a table, absent as section 2 has it.
 fn table<'a>(
     file: &'a [u8],
     directory: &[Record],

@@ -173,9 +173,16 @@ impl<'a> Reader<'a> {
         }
         let file = &self.job[self.at..end as usize];
         self.at = end as usize;
-        match font::read(file) {
+        // The font number stands behind a collection that has its header.
+        let number = if font::is_collection(file) && file.len() >= font::HEADER {
+            self.field(2)?
+        } else {
+            Field { bits: 0, ..length }
+        };
+        match font::read(file, number.bits as u16) {
             Ok(font) => Ok(Face { held, font }),
-            Err(number) => refuse(number, length.position),
+            Err(30) => refuse(30, number.position),
+            Err(refusal) => refuse(refusal, length.position),
         }
     }
 

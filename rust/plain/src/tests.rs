@@ -438,6 +438,219 @@ fn fields_of_a_face() {
     assert_eq!(check(&long), (18, 3));
 }
 
+/// A collection: its header, the offsets, then the parts that they name.
+fn collection(version: u8, offsets: &[u32], parts: &[&[u8]]) -> Vec<u8> {
+    let mut out = b"ttcf".to_vec();
+    out.extend([0, version, 0, 0]);
+    out.extend((offsets.len() as u32).to_be_bytes());
+    for offset in offsets {
+        out.extend(offset.to_be_bytes());
+    }
+    out.extend(parts.concat());
+    out
+}
+
+/// A directory of the given records: tag, offset, length.
+fn directory(records: &[(&[u8; 4], u32, u32)]) -> Vec<u8> {
+    let mut out = vec![0, 1, 0, 0, 0, records.len() as u8, 0, 0, 0, 0, 0, 0];
+    for (tag, offset, length) in records {
+        out.extend(*tag);
+        out.extend([0; 4]);
+        out.extend(offset.to_be_bytes());
+        out.extend(length.to_be_bytes());
+    }
+    out
+}
+
+/// Where the tables of `pair` and the directory of its second font stand.
+const CMAP: u32 = 64;
+const OS2: u32 = CMAP + 14;
+const SECOND: u32 = OS2 + 78;
+
+/// Two fonts over one `cmap`: the first of the default attributes, the second
+/// of weight 700 with its directory after the tables.
+fn pair(version: u8) -> Vec<u8> {
+    let cmap = [0, 0, 0, 1, 0, 3, 0, 1, 0, 0, 0, 12, 0, 4];
+    let mut os2 = [0; 78];
+    os2[4..8].copy_from_slice(&[2, 188, 0, 5]);
+    let first = directory(&[(b"cmap", CMAP, 14)]);
+    let gap = vec![0xee; CMAP as usize - 20 - first.len()];
+    let second = directory(&[(b"cmap", CMAP, 14), (b"OS/2", OS2, 78)]);
+    let parts: [&[u8]; 5] = [&first, &gap, &cmap, &os2, &second];
+    collection(version, &[20, SECOND], &parts)
+}
+
+/// Both header versions; offsets count from the file's first byte.
+#[test]
+fn fonts_of_a_collection() {
+    for version in [1, 2] {
+        let file = pair(version);
+        assert_eq!(font::count(&file), 2);
+        for (number, weight) in [(0, 400.0), (1, 700.0)] {
+            let read = font::read(&file, number).unwrap();
+            assert_eq!(read.attributes, asked_weight(weight));
+            assert_eq!(read.charmap.offset, CMAP + 12);
+        }
+        assert_eq!(font::read(&file, 2), Err(30));
+        assert_eq!(font::read(&file, u16::MAX), Err(30));
+    }
+}
+
+/// What is 21 comes before and after 30; a lone file has one font.
+#[test]
+fn font_numbers() {
+    let lone = font_file(400, 0);
+    assert_eq!(font::count(&lone), 1);
+    assert!(font::read(&lone, 0).is_ok());
+    assert_eq!(font::read(&lone, 1), Err(30));
+    for (file, at_0, at_1) in [
+        (&b"ttcf\0\x01\0\0\0\0\0"[..], 21, 21),
+        (b"ttcf\0\x01\0\0\0\0\0\0", 30, 30),
+        (b"ttcf\0\x01\0\0\0\0\0\x01", 21, 30),
+        (b"ttcf\0\x01\0\0\x40\0\0\0", 21, 21),
+        (b"ttcf\0\x01\0\0\x80\0\0\x01\0\0\0\0", 21, 21),
+        (b"ttcg\0\x01\0\0\0\0\0\x02", 21, 30),
+        (b"ttc", 21, 21),
+        (&lone[..11], 21, 21),
+        (&lone[..12], 21, 30),
+    ] {
+        let answers = [0, 1].map(|number| font::read(file, number));
+        assert_eq!(answers, [Err(at_0), Err(at_1)], "{file:?}");
+    }
+    assert_eq!(font::count(b"ttcf\0\x01\0\0\0\0\0"), 0);
+    assert_eq!(font::count(b"ttcf\0\x01\0\0\x80\0\0\x01"), 0x8000_0001);
+}
+
+/// Every offset lies in the file, whichever font is asked for.
+#[test]
+fn offsets_of_a_collection() {
+    let file = pair(1);
+    // The second offset at and around the last place for a header.
+    let room = file.len() as u32 - 12;
+    for (offset, answer) in [
+        (SECOND, None),
+        (20, None),
+        (room, Some(21)),
+        (room + 1, Some(21)),
+        (file.len() as u32, Some(21)),
+        (u32::MAX, Some(21)),
+        // `ttcf` is no start of a font.
+        (0, Some(21)),
+    ] {
+        let mut file = file.clone();
+        file[16..20].copy_from_slice(&offset.to_be_bytes());
+        assert_eq!(font::read(&file, 1).err(), answer, "{offset}");
+        assert!(font::read(&file, 0).is_ok());
+    }
+    // A directory that ends with the file, and one that does not.
+    assert_eq!(font::read(&file[..file.len() - 1], 1), Err(21));
+    assert!(font::read(&file[..file.len() - 1], 0).is_ok());
+    // As many offsets as there are bytes for, and one more.
+    let most = (file.len() as u32 - 12) / 4;
+    for (count, accepted) in [(most, true), (most + 1, false)] {
+        let mut file = file.clone();
+        file[8..12].copy_from_slice(&count.to_be_bytes());
+        assert_eq!(font::read(&file, 0).is_ok(), accepted, "{count}");
+    }
+}
+
+/// A job of one face, with bytes behind the file.
+fn job_of_file(file: &[u8], behind: &[u8]) -> Vec<u8> {
+    let mut job = faces(&[file.to_vec()]);
+    job.extend(behind);
+    job.extend([0; 6]);
+    job
+}
+
+/// Refusals of a face from a collection: at the length, which is 3, or at the number.
+#[test]
+fn fields_of_a_collection() {
+    let file = pair(1);
+    let number = 7 + file.len();
+    let at = number as u32;
+    assert_eq!(check(&job_of_file(&file, &[0, 0])), (0, 0));
+    assert_eq!(check(&job_of_file(&file, &[0, 1])), (0, 0));
+    assert_eq!(check(&job_of_file(&file, &[0, 2])), (30, at));
+    assert_eq!(check(&job_of_file(&file, &[1, 0])), (30, at));
+    // No number: the next two bytes are it, and the job is short of two.
+    assert_eq!(check(&job_of_file(&file, &[])), (18, at + 6));
+    let job = job_of_file(&file, &[0, 2]);
+    assert_eq!(check(&job[..number - 1]), (18, 3));
+    assert_eq!(check(&job[..number]), (18, at));
+    assert_eq!(check(&job[..number + 1]), (18, at));
+    assert_eq!(check(&job[..number + 2]), (30, at));
+    let mut held = job.clone();
+    held[2] = 2;
+    assert_eq!(check(&held), (20, 2));
+    // Behind a lone font there is no number.
+    let lone = font_file(400, 0);
+    assert_eq!(check(&job_of_file(&lone, &[])), (0, 0));
+    assert_eq!(check(&job_of_file(&lone, &[0, 0])).0, 27);
+}
+
+/// 21 to 23 are at the length, though they are met behind the number.
+#[test]
+fn font_refusals_of_a_collection() {
+    // Without its header a collection has no number.
+    assert_eq!(check(&job_of_file(b"ttcf", &[])), (21, 3));
+    assert_eq!(check(&faces(&[b"ttcf\0\x01\0\0\0\0\0".to_vec()])), (21, 3));
+    let header = b"ttcf\0\x01\0\0\0\0\0\x01";
+    assert_eq!(check(&faces(&[header.to_vec()])), (18, 19));
+    assert_eq!(check(&job_of_file(header, &[0, 1])), (30, 19));
+    assert_eq!(check(&job_of_file(header, &[0, 0])), (21, 3));
+    // One font, of too many axes, without a `cmap` besides, and of 16 axes.
+    for (axes, tag, number) in [(17, b"cmap", 23), (17, b"kmap", 22), (16, b"cmap", 0)] {
+        let mut font = font_file(400, axes);
+        font[12..16].copy_from_slice(tag);
+        for record in 0..3 {
+            let offset = 12 + 16 * record + 8 + 2;
+            let moved = u16::from_be_bytes([font[offset], font[offset + 1]]) + 16;
+            font[offset..offset + 2].copy_from_slice(&moved.to_be_bytes());
+        }
+        let file = collection(1, &[16], &[&font]);
+        let position = if number == 0 { 0 } else { 3 };
+        assert_eq!(check(&job_of_file(&file, &[0, 0])), (number, position));
+    }
+}
+
+/// The offers are those of the font alone, but for the `cmap` offset.
+#[test]
+fn offers_of_a_collection() {
+    let record = |file: &[u8], behind: &[u8]| {
+        let mut job = faces(&[file.to_vec()]);
+        job.extend(behind);
+        job.extend([0, 0, 0, 1, 0, 1, 0, 0, 0, 1]);
+        job.extend(request(8, ONE, 700.0));
+        let mut out = [0; 40];
+        assert_eq!(offer(&job, 0, 0, &mut out), 0);
+        out
+    };
+    let lone = record(&font_file(700, 0), &[]);
+    let mut expected = record(&pair(2), &[0, 1]);
+    assert_eq!(expected[32..36], (CMAP + 12).to_be_bytes());
+    expected[35] = lone[35];
+    assert_eq!(expected, lone);
+    assert_eq!(record(&pair(2), &[0, 0])[4], 1);
+}
+
+/// What is known of the jobs with collections is the very answer.
+#[test]
+fn collections_of_the_list() {
+    let cases = jobs::list::made().into_iter();
+    let mut cases = cases.filter(|case| case.label.starts_with("collection, "));
+    let known = |case: jobs::list::Case| {
+        let (number, position) = check(&case.bytes);
+        assert!(
+            case.expected.tells(number, position as usize),
+            "{}: {number} {position}, not {:?}",
+            case.label,
+            case.expected
+        );
+    };
+    known(cases.next().expect("a job with a collection"));
+    cases.for_each(known);
+}
+
 /// A job of three families whose request names the last twice, an unknown
 /// one, the empty one, and the first as a fallback; and where its most stands.
 fn job_of_turns() -> (Vec<u8>, usize) {

@@ -12,9 +12,9 @@ use crate::{as_plain, describe, families};
 #[test]
 fn fonts_of_the_list() {
     for seed in 1..=20 {
-        for (label, bytes) in jobs::font_list::list(seed).fonts {
-            let plain = lines::font(&font::read(&bytes));
-            assert_eq!(describe::line(&bytes), plain, "{label}");
+        for (label, (file, number)) in jobs::font_list::list(seed).fonts {
+            let plain = lines::font(&font::read(&file, number));
+            assert_eq!(describe::line(&file, number), plain, "{label}");
         }
     }
 }

@@ -54,6 +54,8 @@ pub fn offer(job: &[u8], request: u32, number: u32, out: &mut [u8]) -> u32 {
 struct Face<'a> {
     held: bool,
     file: &'a [u8],
+    /// Of the font in the file.
+    number: u16,
     info: FontInfo,
 }
 
@@ -233,9 +235,21 @@ impl<'a> Reader<'a> {
             return refuse(18, at);
         };
         self.at += length;
-        match describe::read_from(file, source.clone()) {
-            Ok(info) => Ok(Face { held, file, info }),
-            Err(number) => refuse(number, at),
+        // Behind a collection that has its header stands the font number.
+        let (number, number_at) = if file.starts_with(b"ttcf") && length >= 12 {
+            self.number()?
+        } else {
+            (0, at)
+        };
+        match describe::read_from(file, number, source.clone()) {
+            Ok(info) => Ok(Face {
+                held,
+                file,
+                number,
+                info,
+            }),
+            Err(30) => refuse(30, number_at),
+            Err(refusal) => refuse(refusal, at),
         }
     }
 
@@ -330,8 +344,8 @@ fn find(job: &Job<'_>, request: &Request<'_>, number: usize) -> Option<[u8; OUTP
                 weight,
             } = request.attributes;
             let synthesis = walk.fonts[place].synthesis(width, style, weight);
-            let file = job.face(places, place).file;
-            return Some(record(family, place, &synthesis, file));
+            let charmap = charmap(job.face(places, place)).expect("the font has been read");
+            return Some(record(family, place, &synthesis, charmap));
         }
     }
     None
@@ -392,7 +406,7 @@ fn default_place(fonts: &[FontInfo]) -> usize {
     match_font(fonts, width, style, weight, false).unwrap_or(0)
 }
 
-fn record(family: u16, place: usize, synthesis: &Synthesis, file: &[u8]) -> [u8; OUTPUT] {
+fn record(family: u16, place: usize, synthesis: &Synthesis, charmap: Charmap) -> [u8; OUTPUT] {
     let mut out = [0; OUTPUT];
     out[0..2].copy_from_slice(&family.to_be_bytes());
     out[2..4].copy_from_slice(&(place as u16).to_be_bytes());
@@ -404,17 +418,19 @@ fn record(family: u16, place: usize, synthesis: &Synthesis, file: &[u8]) -> [u8;
         slot[..4].copy_from_slice(&tag.to_be_bytes());
         slot[4..].copy_from_slice(&value.to_be_bytes());
     }
-    let (offset, symbol, mac_roman) = charmap(file).expect("the font has been read");
+    let (offset, symbol, mac_roman) = charmap;
     out[32..36].copy_from_slice(&offset.to_be_bytes());
     out[36] = u8::from(symbol);
     out[37] = u8::from(mac_roman);
     out
 }
 
-/// Offset and flags of the best subtable. The original's index keeps them to
-/// itself, so they are read as it read them.
-fn charmap(file: &[u8]) -> Option<(u32, bool, bool)> {
-    let font = FontRef::from_index(file, 0).ok()?;
+/// Offset and flags of the best subtable.
+type Charmap = (u32, bool, bool);
+
+/// The original's index keeps them to itself, so they are read as it read them.
+fn charmap(face: &Face<'_>) -> Option<Charmap> {
+    let font = FontRef::from_index(face.file, face.number.into()).ok()?;
     let records = font.table_directory().table_records();
     let table = records.iter().find(|record| record.tag() == Cmap::TAG)?;
     let (_, best, _) = font.cmap().ok()?.best_subtable()?;

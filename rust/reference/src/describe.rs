@@ -6,27 +6,29 @@ use plain::{
     font::{AXES, CharmapIndex},
     lines,
 };
-use read_fonts::FontRef;
+use read_fonts::{FontRef, ReadError};
 
 use crate::{
     Blob, FontInfo, as_plain,
     source::{SourceId, SourceInfo, SourceKind},
 };
 
-/// Reads a font with the original, or gives the number for why it is refused
-/// (docs/GUIDE.md, section 6).
-pub fn read(bytes: &[u8]) -> Result<FontInfo, u32> {
+/// Reads the font of the number with the original, or gives the number for
+/// why it is refused (docs/GUIDE.md, section 6).
+pub fn read(bytes: &[u8], number: u16) -> Result<FontInfo, u32> {
     let blob = Blob::new(Arc::new(bytes.to_vec()));
-    read_from(
-        bytes,
-        SourceInfo::new(SourceId::new(), SourceKind::Memory(blob)),
-    )
+    let source = SourceInfo::new(SourceId::new(), SourceKind::Memory(blob));
+    read_from(bytes, number, source)
 }
 
 /// The same, the font said to be of a source. The original has no limit of axes.
-pub fn read_from(bytes: &[u8], source: SourceInfo) -> Result<FontInfo, u32> {
-    let font = FontRef::from_index(bytes, 0).map_err(|_| 21u32)?;
-    let info = FontInfo::from_font_ref(&font, source, 0).ok_or(22u32)?;
+pub fn read_from(bytes: &[u8], number: u16, source: SourceInfo) -> Result<FontInfo, u32> {
+    let index = u32::from(number);
+    let font = FontRef::from_index(bytes, index).map_err(|error| match error {
+        ReadError::InvalidCollectionIndex(_) => 30u32,
+        _ => 21,
+    })?;
+    let info = FontInfo::from_font_ref(&font, source, index).ok_or(22u32)?;
     if info.axes().len() > AXES {
         return Err(23);
     }
@@ -34,8 +36,8 @@ pub fn read_from(bytes: &[u8], source: SourceInfo) -> Result<FontInfo, u32> {
 }
 
 /// `refused N`, or `read ..` with the bits of every number; no line end.
-pub fn line(bytes: &[u8]) -> String {
-    lines::font(&read(bytes).map(|info| as_plain::font(&info)))
+pub fn line(bytes: &[u8], number: u16) -> String {
+    lines::font(&read(bytes, number).map(|info| as_plain::font(&info)))
 }
 
 /// File offset, symbol and Mac Roman. The original's fields are private and

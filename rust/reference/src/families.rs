@@ -41,7 +41,7 @@ impl Case {
 
 /// Makes the face by way of a font file and an override, as fontique does.
 pub fn make(plan: &FacePlan) -> FontInfo {
-    let mut info = describe::read(&plan.file()).expect("a font that is not refused");
+    let mut info = describe::read(&plan.file(), 0).expect("a font that is not refused");
     apply(&mut info, &plan.given());
     info
 }

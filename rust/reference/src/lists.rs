@@ -2,7 +2,7 @@
 
 use std::{fs, io, path::Path};
 
-use jobs::font_list::List;
+use jobs::font_list::{self, List};
 
 use crate::describe;
 
@@ -23,9 +23,9 @@ pub fn put(stdin: &mut Vec<u8>, bytes: &[u8]) {
 pub fn fonts(folder: &Path, list: &List) -> io::Result<()> {
     let mut stdin = Vec::new();
     let mut stdout = String::new();
-    for (_, bytes) in &list.fonts {
-        put(&mut stdin, bytes);
-        stdout.push_str(&describe::line(bytes));
+    for (_, font) in &list.fonts {
+        font_list::put(&mut stdin, font);
+        stdout.push_str(&describe::line(&font.0, font.1));
         stdout.push('\n');
     }
     write(folder, &stdin, &stdout)

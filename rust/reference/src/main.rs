@@ -12,7 +12,7 @@ usage:
   reference jobs --out DIR [--seed S] [--count N] [--labels]
   reference jobs --compare-only [--seed S] [--count N]
   reference pairs --out DIR
-  reference describe FONTFILE";
+  reference describe FONTFILE [--number N]";
 
 /// Seed of the lists where none is given.
 const SEED: u64 = 1;
@@ -21,7 +21,7 @@ const SEED: u64 = 1;
 const COUNT: usize = 2500;
 
 /// Random jobs where no count is given.
-const JOBS: usize = 400;
+const JOBS: usize = 300;
 
 #[derive(Default)]
 struct Options {
@@ -31,6 +31,7 @@ struct Options {
     labels: bool,
     compare_only: bool,
     file: Option<PathBuf>,
+    number: u16,
 }
 
 fn options(mut args: impl Iterator<Item = String>) -> Option<Options> {
@@ -39,6 +40,7 @@ fn options(mut args: impl Iterator<Item = String>) -> Option<Options> {
         match arg.as_str() {
             "--out" => options.out = Some(args.next()?.into()),
             "--seed" => options.seed = Some(args.next()?.parse().ok()?),
+            "--number" => options.number = args.next()?.parse().ok()?,
             "--count" => options.count = Some(args.next()?.parse().ok()?),
             "--labels" => options.labels = true,
             "--compare-only" => options.compare_only = true,
@@ -97,7 +99,8 @@ fn run() -> Option<io::Result<()>> {
         }
         "jobs" => jobs(&options, seed)?,
         "pairs" => pairs::write(&options.out?),
-        "describe" => fs::read(options.file?).map(|bytes| println!("{}", describe::line(&bytes))),
+        "describe" => fs::read(options.file?)
+            .map(|bytes| println!("{}", describe::line(&bytes, options.number))),
         _ => return None,
     })
 }

@@ -11,7 +11,7 @@ use std::{
 };
 
 use jobs::{
-    bytes::hex,
+    bytes::{fonts_stated, hex},
     counts,
     damage::Expected,
     layout::{self, Job, Request},
@@ -31,7 +31,6 @@ use crate::{
 #[derive(Copy, Clone, Default)]
 pub struct Counts {
     pub all: counts::Counts,
-    pub faces: u64,
     pub families: u64,
     /// Requests whose list is as long as its most.
     pub full: u64,
@@ -86,7 +85,7 @@ impl Harness {
         }
         let read = plain::job::read(bytes).map_err(|refusal| format!("{refusal:?}"))?;
         let mut original = self.original(&job)?;
-        self.counts.faces += job.faces.len() as u64;
+        self.counts.all.faces(&job);
         self.counts.families += job.families.len() as u64;
         let mut lines = Lines::of(format!("requests {}\n", job.requests.len()));
         for (number, request) in job.requests.iter().enumerate() {
@@ -128,10 +127,11 @@ impl Harness {
         let mut faces = Vec::new();
         for face in &job.faces {
             let info = if face.held {
-                describe::read(face.font)
+                describe::read(face.font, face.number)
             } else {
                 let kind = SourceKind::Path(self.nowhere.clone());
-                describe::read_from(face.font, SourceInfo::new(SourceId::new(), kind))
+                let source = SourceInfo::new(SourceId::new(), kind);
+                describe::read_from(face.font, face.number, source)
             };
             faces.push(info.map_err(|number| format!("a font: {number}"))?);
         }
@@ -146,23 +146,29 @@ impl Harness {
         for (places, name) in job.families.iter().zip(&self.names) {
             let fonts = places.iter().map(|face| faces[usize::from(*face)].clone());
             let family = FamilyInfo::new(name.clone(), fonts);
-            let charmaps = family
-                .fonts()
-                .iter()
-                .map(|font| (font.charmap_index(), describe::charmap(font)))
-                .collect();
-            original.families.push((family.id(), charmaps));
+            let fonts = family.fonts().iter().map(|font| Place {
+                number: font.index(),
+                index: font.charmap_index(),
+                charmap: describe::charmap(font),
+            });
+            original.families.push((family.id(), fonts.collect()));
             original.collection.add_family(family);
         }
         Ok(original)
     }
 }
 
-/// An index of the original and its three fields.
-type Charmap = (CharmapIndex, plain::font::CharmapIndex);
+/// What an offer of a face is held to.
+struct Place {
+    /// The font's number in its file.
+    number: u32,
+    /// An index of the original and its three fields.
+    index: CharmapIndex,
+    charmap: plain::font::CharmapIndex,
+}
 
-/// A family's identifier and, by place, the charmap's fields.
-type Family = (FamilyId, Vec<Charmap>);
+/// A family's identifier and its places.
+type Family = (FamilyId, Vec<Place>);
 
 struct Original {
     collection: Collection,
@@ -213,13 +219,14 @@ fn offer(families: &[Family], font: &QueryFont) -> Offer {
         .iter()
         .position(|(other, _)| *other == id)
         .expect("a family of the job");
-    let (index, charmap) = families[family].1[place];
-    assert_eq!(font.charmap_index, index, "the index of the offered face");
+    let face = &families[family].1[place];
+    assert_eq!(font.charmap_index, face.index, "of the offered face");
+    assert_eq!(font.index, face.number, "of the offered face");
     Offer {
         family: family as u16,
         place: place as u16,
         synthesis: as_plain::synthesis(&font.synthesis),
-        charmap,
+        charmap: face.charmap,
     }
 }
 
@@ -312,42 +319,73 @@ fn known(number: u32, position: usize, expected: Expected) -> Result<(), String>
 /// on its way, and refuses the one that it refused.
 pub fn fonts_agree(bytes: &[u8], number: u32, position: usize) -> Result<(), String> {
     let end = if number == 0 { usize::MAX } else { position };
-    let read16 = |at: usize| {
-        bytes
-            .get(at..at + 2)
-            .map(|b| u16::from_be_bytes([b[0], b[1]]))
-    };
     let mut at = 2;
     let mut met = false;
-    for _ in 0..read16(0).unwrap_or(0) {
+    for _ in 0..read16(bytes, 0).unwrap_or(0) {
         let length_at = at + 1;
         if length_at > end {
             break;
         }
-        let length = bytes.get(length_at..length_at + 4);
-        let length = length.map(|b| u32::from_be_bytes([b[0], b[1], b[2], b[3]]) as usize);
-        let file = length.and_then(|length| bytes.get(length_at + 4..length_at + 4 + length));
-        let Some(file) = file else {
-            return if (number, position) == (18, length_at) {
-                Ok(())
-            } else {
-                Err(format!("a font past the end, but {number} at {position}"))
-            };
+        let entry = match Entry::read(bytes, length_at) {
+            Ok(entry) => entry,
+            Err(at) if (number, position) == (18, at) => return Ok(()),
+            Err(at) => return Err(format!("past the end at {at}, but {number} at {position}")),
         };
-        let refused = describe::read(file).err().unwrap_or(0);
-        let expected = if length_at == end { number } else { 0 };
+        let refused = describe::read(entry.file, entry.number).err().unwrap_or(0);
+        // 30 is told at the font number, 21 to 23 at the length.
+        let told = if refused == 30 {
+            entry.number_at
+        } else {
+            length_at
+        };
+        let expected = if told == end { number } else { 0 };
         if refused != expected {
             return Err(format!(
                 "the font at {length_at}: the original {refused}, plain {expected}"
             ));
         }
-        met |= length_at == end;
-        at = length_at + 4 + file.len();
+        met |= told == end;
+        at = entry.end;
     }
-    if (21..=23).contains(&number) && !met {
+    if matches!(number, 21..=23 | 30) && !met {
         return Err(format!("{number} at {position}, where no font stands"));
     }
     Ok(())
+}
+
+fn read16(bytes: &[u8], at: usize) -> Option<u16> {
+    let two = bytes.get(at..at + 2)?;
+    Some(u16::from_be_bytes([two[0], two[1]]))
+}
+
+/// A face from its length on.
+struct Entry<'a> {
+    file: &'a [u8],
+    number: u16,
+    /// The end of the file.
+    number_at: usize,
+    end: usize,
+}
+
+impl<'a> Entry<'a> {
+    /// Where the file or its font number lies past the end, the position of that.
+    fn read(bytes: &'a [u8], length_at: usize) -> Result<Self, usize> {
+        let rest = bytes.get(length_at..).ok_or(length_at)?;
+        let (length, rest) = rest.split_first_chunk().ok_or(length_at)?;
+        let length = u32::from_be_bytes(*length) as usize;
+        let file = rest.get(..length).ok_or(length_at)?;
+        let number_at = length_at + 4 + length;
+        let (number, end) = match fonts_stated(file) {
+            Some(_) => (read16(bytes, number_at).ok_or(number_at)?, number_at + 2),
+            None => (0, number_at),
+        };
+        Ok(Self {
+            file,
+            number,
+            number_at,
+            end,
+        })
+    }
 }
 
 /// Compares the cases and writes `stdin` and `stdout` into the folder.
@@ -390,9 +428,9 @@ impl Counts {
     pub fn text(&self) -> String {
         let all = &self.all;
         format!(
-            "{}faces {} families {} requests {}\n{} lists as long as their most {}\nno difference\n",
+            "{}{} families {} requests {}\n{} lists as long as their most {}\nno difference\n",
             all.jobs_text(),
-            self.faces,
+            all.faces_text(),
             self.families,
             all.requests,
             all.offers_text(),
@@ -415,8 +453,8 @@ mod tests {
     #[test]
     fn no_difference() {
         let counts = compare_all(cases(11, 3000)).unwrap().all;
-        assert!(counts.accepted > 1000);
-        for number in (18..=27).filter(|number| *number != 23) {
+        assert!(counts.accepted > 1000 && counts.collected > 1000);
+        for number in (18..=27).chain([30]).filter(|number| *number != 23) {
             assert!(counts.refused[number] > 10, "{number}");
         }
     }

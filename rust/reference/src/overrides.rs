@@ -62,7 +62,7 @@ fn make(face: &Font) -> Option<FontInfo> {
     };
     let axes: Vec<FixedAxis> = face.axes.iter().map(axis).collect();
     let file = font(START, &[(*b"cmap", plain_cmap()), (*b"fvar", fvar(&axes))]);
-    let mut info = describe::read(&file).ok()?;
+    let mut info = describe::read(&file, 0).ok()?;
     let own = &face.attributes;
     apply(
         &mut info,

@@ -3,7 +3,8 @@
 //!
 //! - The first record with a tag counts.
 //! - A table that reaches past the file, or is shorter than needed, is absent.
-//! - Offsets and lengths are plain numbers; no sum wraps.
+//! - Offsets and lengths are plain numbers; no sum wraps. A table's offset
+//!   counts from the first byte of the file, in a collection too.
 
 pub mod tables;
 pub mod types;
@@ -55,8 +56,11 @@ impl<'a> FontData<'a> {
 /// Why something could not be read. The original only asks whether.
 #[derive(Copy, Clone, PartialEq, Eq, Debug)]
 pub enum ReadError {
-    /// The file is no font: bad start or directory past the file.
+    /// The file has no such font: bad start, or header, offsets or directory
+    /// past the file.
     BadFont,
+    /// The file has fewer fonts.
+    InvalidCollectionIndex(u32),
     /// The table is absent as section 2 has it.
     Absent,
     /// A part that section 2 gives no meaning to.
@@ -114,7 +118,36 @@ impl<'a> TableDirectory<'a> {
     }
 }
 
-/// A font file whose directory has been read.
+/// A collection whose header has been read: of it only the count is looked at.
+#[derive(Clone, Debug)]
+pub struct CollectionRef<'a> {
+    data: FontData<'a>,
+    count: u32,
+}
+
+impl<'a> CollectionRef<'a> {
+    pub fn new(bytes: &'a [u8]) -> Result<Self, ReadError> {
+        let data = FontData::new(bytes);
+        let header = data.part(0, HEADER);
+        let header = header.filter(|header| header.0.starts_with(b"ttcf"));
+        let count = header.and_then(|header| header.u32_at(8));
+        let count = count.ok_or(ReadError::BadFont)?;
+        Ok(Self { data, count })
+    }
+
+    /// The font whose directory begins at the offset with the index. All
+    /// offsets have to lie in the file.
+    pub fn get(&self, index: u32) -> Result<FontRef<'a>, ReadError> {
+        if index >= self.count {
+            return Err(ReadError::InvalidCollectionIndex(index));
+        }
+        let offsets = self.data.part(HEADER, 4 * u64::from(self.count));
+        let start = offsets.and_then(|offsets| offsets.u32_at(4 * u64::from(index)));
+        FontRef::at(self.data, start.ok_or(ReadError::BadFont)?.into())
+    }
+}
+
+/// A font whose directory has been read. Its tables are parts of the file.
 #[derive(Clone, Debug)]
 pub struct FontRef<'a> {
     data: FontData<'a>,
@@ -122,13 +155,21 @@ pub struct FontRef<'a> {
 }
 
 impl<'a> FontRef<'a> {
-    /// Reads the header and the directory. Only number 0: there are no collections.
+    /// The font with the index; a file that is no collection has one.
     pub fn from_index(bytes: &'a [u8], index: u32) -> Result<Self, ReadError> {
-        if index != 0 {
-            return Err(ReadError::BadFont);
+        if let Ok(collection) = CollectionRef::new(bytes) {
+            return collection.get(index);
         }
-        let data = FontData::new(bytes);
-        let directory = directory(data).ok_or(ReadError::BadFont)?;
+        match index {
+            0 => Self::at(FontData::new(bytes), 0),
+            _ if (bytes.len() as u64) < HEADER => Err(ReadError::BadFont),
+            _ => Err(ReadError::InvalidCollectionIndex(index)),
+        }
+    }
+
+    /// The font whose directory begins at `start`.
+    fn at(data: FontData<'a>, start: u64) -> Result<Self, ReadError> {
+        let directory = directory(data, start).ok_or(ReadError::BadFont)?;
         Ok(Self { data, directory })
     }
 
@@ -152,14 +193,17 @@ impl<'a> FontRef<'a> {
     }
 }
 
-fn directory(data: FontData<'_>) -> Option<TableDirectory<'_>> {
-    let header = data.part(0, 12)?;
-    let start = header.u32_at(0)?.to_be_bytes();
-    if ![[0, 1, 0, 0], *b"OTTO", *b"true"].contains(&start) {
+/// Bytes of a header: a font's, and a collection's before its offsets.
+const HEADER: u64 = 12;
+
+fn directory(data: FontData<'_>, start: u64) -> Option<TableDirectory<'_>> {
+    let header = data.part(start, HEADER)?;
+    let version = header.u32_at(0)?.to_be_bytes();
+    if ![[0, 1, 0, 0], *b"OTTO", *b"true"].contains(&version) {
         return None;
     }
     let count = header.u16_at(4)? as u64;
-    let records = data.part(12, 16 * count)?;
+    let records = data.part(start + HEADER, 16 * count)?;
     let (records, _) = records.0.as_chunks();
     Some(TableDirectory(TableRecords(records)))
 }

@@ -42,10 +42,56 @@ fn starts() {
     assert!(FontRef::from_index(&good, 0).is_ok());
     assert!(FontRef::from_index(&good, 1).is_err());
     assert!(FontRef::from_index(&good[..11], 0).is_err());
-    assert!(FontRef::from_index(b"ttcf\0\0\0\0\0\0\0\0", 0).is_err());
     let one = font(&[(b"post", &[])]);
     assert!(FontRef::from_index(&one, 0).is_ok());
     assert!(FontRef::from_index(&one[..27], 0).is_err());
+}
+
+/// A collection of two fonts over one `post`; the second's directory is last.
+fn collection() -> Vec<u8> {
+    let directory = |offset: u8| {
+        let mut out = font(&[(b"post", &[0; 32])])[..28].to_vec();
+        out[23] = offset;
+        out
+    };
+    let mut out = b"ttcf\0\x02\0\0\0\0\0\x02\0\0\0\x14\0\0\0\x50".to_vec();
+    out.extend(directory(48));
+    out.extend([7; 32]);
+    out.extend(directory(47));
+    out
+}
+
+#[test]
+fn fonts_of_a_collection() {
+    use ReadError::{BadFont, InvalidCollectionIndex};
+    let file = collection();
+    let read = |bytes: &[u8], index| FontRef::from_index(bytes, index).err();
+    for (index, offset, byte) in [(0, 48, 7), (1, 47, 32)] {
+        let font = FontRef::from_index(&file, index).unwrap();
+        let mut records = font.table_directory().table_records().iter();
+        assert_eq!(records.next().map(|record| record.offset()), Some(offset));
+        let post = font.table(Post::TAG, 32).unwrap();
+        assert_eq!((post.len(), post.as_bytes()[0]), (32, byte));
+    }
+    assert_eq!(read(&file, 2), Some(InvalidCollectionIndex(2)));
+    assert_eq!(read(&file[..107], 1), Some(BadFont));
+    assert_eq!(read(&file[..107], 0), None);
+    // All offsets, whichever is asked for, and the number before them.
+    assert_eq!(read(&file[..19], 0), Some(BadFont));
+    assert_eq!(read(&file[..12], 2), Some(InvalidCollectionIndex(2)));
+    assert_eq!(read(&file[..11], 2), Some(BadFont));
+    let mut other = file.clone();
+    other[8] = 0x40;
+    assert_eq!(read(&other, 2), Some(BadFont));
+    // A collection within a collection.
+    other = file.clone();
+    other[15] = 0;
+    assert_eq!(read(&other, 0), Some(BadFont));
+    assert_eq!(read(&other, 1), None);
+    // A file of one font.
+    let one = font(&[]);
+    assert_eq!(read(&one, 1), Some(InvalidCollectionIndex(1)));
+    assert_eq!(read(&one[..11], 1), Some(BadFont));
 }
 
 #[test]
