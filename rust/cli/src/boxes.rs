@@ -1,8 +1,7 @@
 //! A font that has a box for every character. A page has it behind each face,
 //! so that what a face does not have is not set in some other font unnoticed.
 
-/// A table, by its tag.
-type Table = ([u8; 4], Vec<u8>);
+use crate::sfnt::{self, Table};
 
 /// The glyphs: `.notdef` and the box, which look the same.
 const GLYPHS: u16 = 2;
@@ -25,7 +24,7 @@ const CORNERS: [(i16, i16); 8] = [
 pub fn font() -> Vec<u8> {
     let glyph = glyph();
     let end = (glyph.len() / 2) as u16;
-    let tables: [Table; 10] = [
+    let tables = [
         (*b"OS/2", os2()),
         (*b"cmap", cmap()),
         (*b"glyf", [glyph.clone(), glyph].concat()),
@@ -37,7 +36,23 @@ pub fn font() -> Vec<u8> {
         (*b"name", halves(&[0, 0, 6])),
         (*b"post", [halves(&[3, 0]), vec![0; 28]].concat()),
     ];
-    file(&tables)
+    let tables = tables.each_ref().map(|(tag, bytes)| Table {
+        tag: *tag,
+        sum: sum(bytes),
+        bytes,
+    });
+    sfnt::file([0, 1, 0, 0], &tables)
+}
+
+/// A table's checksum.
+fn sum(table: &[u8]) -> u32 {
+    let mut sum = 0_u32;
+    for chunk in table.chunks(4) {
+        let mut word = [0; 4];
+        word[..chunk.len()].copy_from_slice(chunk);
+        sum = sum.wrapping_add(u32::from_be_bytes(word));
+    }
+    sum
 }
 
 fn halves(numbers: &[u16]) -> Vec<u8> {
@@ -125,38 +140,6 @@ fn maxp() -> Vec<u8> {
     fields(32, &[(0, 1), (4, GLYPHS), (6, points), (8, 2), (14, 2)])
 }
 
-/// The file of some tables, each on a multiple of four bytes.
-fn file(tables: &[Table]) -> Vec<u8> {
-    let count = tables.len() as u16;
-    let power = count.ilog2() as u16;
-    let range = 16 << power;
-    let mut out = halves(&[1, 0, count, range, power, 16 * count - range]);
-    let mut offset = 12 + 16 * tables.len();
-    for (tag, table) in tables {
-        out.extend(tag);
-        for number in [sum(table), offset as u32, table.len() as u32] {
-            out.extend(number.to_be_bytes());
-        }
-        offset += table.len().next_multiple_of(4);
-    }
-    for (_, table) in tables {
-        out.extend(table);
-        out.resize(out.len().next_multiple_of(4), 0);
-    }
-    out
-}
-
-/// A table's checksum.
-fn sum(table: &[u8]) -> u32 {
-    let mut sum = 0_u32;
-    for chunk in table.chunks(4) {
-        let mut word = [0; 4];
-        word[..chunk.len()].copy_from_slice(chunk);
-        sum = sum.wrapping_add(u32::from_be_bytes(word));
-    }
-    sum
-}
-
 #[cfg(test)]
 mod tests {
     use super::*;
@@ -165,7 +148,7 @@ mod tests {
     #[test]
     fn it_is_a_font() {
         let font = font();
-        let words = Reading::of(&font).unwrap().words();
+        let words = Reading::of(&font, 0).unwrap().words();
         assert!(words.starts_with("width 1, normal, weight 400; charmap at "));
         assert!(font.len() < 1024 && font.len().is_multiple_of(4));
     }

@@ -1,4 +1,4 @@
-//! What a font file says of its face: the plain reading of the package `plain`.
+//! What a font says of its face: the plain reading of the package `plain`.
 //!
 //! The picker reads the same by itself. The two are compared on generated and
 //! damaged fonts.
@@ -27,9 +27,9 @@ pub struct Axis {
 }
 
 impl Reading {
-    /// Reads a font file; none where it is refused.
-    pub fn of(file: &[u8]) -> Option<Self> {
-        font::read(file).ok().map(Self)
+    /// Reads a font of a file; none where it is refused.
+    pub fn of(file: &[u8], number: u16) -> Option<Self> {
+        font::read(file, number).ok().map(Self)
     }
 
     /// Applies an override.

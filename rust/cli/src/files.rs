@@ -10,6 +10,7 @@ use std::{
 
 use crate::{
     failure::{Failure, failed, reason},
+    font::Font,
     options::Group,
     words::shown,
 };
@@ -29,26 +30,43 @@ pub struct Family {
     /// Its folder, or none where the files were named one by one.
     pub folder: Option<PathBuf>,
     pub fallback: bool,
-    pub files: Vec<PathBuf>,
+    /// Whole files, and fonts that were named by their numbers.
+    pub files: Vec<Font>,
 }
 
-/// A file that is not used, and why.
+/// Most fonts of a file that are told one by one where they cannot be used.
+pub const MOST_TOLD: usize = 8;
+
+/// A file or a font that is not used, and why.
 #[derive(Debug)]
 pub struct Skipped {
-    pub file: PathBuf,
+    pub font: Font,
     /// The number of the refusal, where the picker refuses it.
     pub refusal: Option<u32>,
     pub reason: String,
 }
 
 impl Skipped {
-    pub fn new(file: &Path, reason: impl Into<String>) -> Self {
+    pub fn new(font: &Font, reason: impl Into<String>) -> Self {
         Self {
-            file: file.to_owned(),
+            font: font.clone(),
             refusal: None,
             reason: reason.into(),
         }
     }
+
+    /// The fonts of a file with these bytes for which there is no number.
+    pub fn over_numbered(file: &Font, bytes: &[u8]) -> Option<Self> {
+        let fonts = file.over_numbered(bytes)?;
+        let reason = "those past number 65535 cannot be numbered";
+        Some(Self::new(file, format!("it has {fonts} fonts: {reason}")))
+    }
+}
+
+/// Of a file, that so many fonts more cannot be used.
+pub fn more(count: usize) -> String {
+    let plural = if count == 1 { "" } else { "s" };
+    format!("and {count} more font{plural} of this file cannot be used")
 }
 
 /// What was found.
@@ -66,7 +84,7 @@ impl Found {
         self.families.iter().map(|family| family.files.len()).sum()
     }
 
-    fn row(&mut self, row: &mut Vec<PathBuf>, fallback: bool) {
+    fn row(&mut self, row: &mut Vec<Font>, fallback: bool) {
         if !row.is_empty() {
             self.families.push(Family {
                 folder: None,
@@ -83,17 +101,32 @@ pub fn find(groups: &[Group], recursive: bool) -> Result<Found, Failure> {
     for group in groups {
         let mut row = Vec::new();
         for path in &group.paths {
-            let metadata = fs::metadata(path).or_else(|error| failed(told(path, &error)))?;
-            if metadata.is_dir() {
+            if let Some(font) = given(path)? {
+                row.push(font);
+            } else {
                 found.row(&mut row, group.fallback);
                 walk(path, group.fallback, recursive, &mut found)?;
-            } else {
-                row.push(path.clone());
             }
         }
         found.row(&mut row, group.fallback);
     }
     Ok(found)
+}
+
+/// The file of a path, or the font of FILE#N; none for a folder. What has the
+/// path as its very name comes first.
+fn given(path: &Path) -> Result<Option<Font>, Failure> {
+    match fs::metadata(path) {
+        Ok(there) if there.is_dir() => Ok(None),
+        Ok(_) => Ok(Some(Font::file(path))),
+        Err(error) => {
+            let is_file = |font: &Font| fs::metadata(&font.file).is_ok_and(|there| !there.is_dir());
+            match Font::numbered(path).filter(is_file) {
+                None => failed(told(path, &error)),
+                font => Ok(font),
+            }
+        }
+    }
 }
 
 fn told(path: &Path, error: &io::Error) -> String {
@@ -121,7 +154,10 @@ fn walk(top: &Path, fallback: bool, recursive: bool, found: &mut Found) -> Resul
                 }
             }
             Err(error) if folder == top => return failed(told(top, &error)),
-            Err(error) => found.skipped.push(Skipped::new(&folder, reason(&error))),
+            Err(error) => {
+                let skipped = Skipped::new(&Font::file(&folder), reason(&error));
+                found.skipped.push(skipped);
+            }
         }
     }
     if found.families.len() + found.skipped.len() == before {
@@ -131,7 +167,7 @@ fn walk(top: &Path, fallback: bool, recursive: bool, found: &mut Found) -> Resul
             " (--recursive looks into its folders)"
         };
         let reason = format!("there is no font file in the folder{hint}");
-        found.skipped.push(Skipped::new(top, reason));
+        found.skipped.push(Skipped::new(&Font::file(top), reason));
     }
     Ok(())
 }
@@ -139,7 +175,7 @@ fn walk(top: &Path, fallback: bool, recursive: bool, found: &mut Found) -> Resul
 /// What lies in a folder, by name.
 #[derive(Default)]
 struct Listing {
-    files: Vec<PathBuf>,
+    files: Vec<Font>,
     folders: Vec<PathBuf>,
 }
 
@@ -165,7 +201,7 @@ fn listing(
         } else if !has_font_ending(&path) {
             found.others += 1;
         } else {
-            listing.files.push(path);
+            listing.files.push(Font::file(&path));
         }
     }
     Ok(listing)

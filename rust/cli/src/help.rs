@@ -9,13 +9,15 @@ usage: stemhook COMMAND [OPTION]... DIR|FILE...
 
 commands:
   pick      print the faces that are offered, best first
-  list      print what was read of each font file
+  list      print what was read of each font
   job       write the job, the bytes that the picker reads
   specimen  write a page that shows the faces that are offered
 
 options:
   -h, --help     print this; after a command, what the command takes
   -V, --version  print the version
+
+Of a collection (.ttc), FILE is all its fonts and FILE#N is one, counted from 0.
 
 example:
   stemhook pick /usr/share/fonts/truetype/dejavu --weight 700 --style italic
@@ -51,18 +53,34 @@ macro_rules! making {
     };
 }
 
-macro_rules! files_and_requests {
+/// How the fonts of a collection are named.
+macro_rules! collections {
     () => {
         "\
+A file that starts with ttcf is a collection: each of its fonts is a face, in
+their order. FILE#N is its font number N alone, counted from 0, unless there is a
+file of that very name. Where an option names a FILE, both will do.
+"
+    };
+}
+
+macro_rules! files_and_requests {
+    () => {
+        concat!(
+            "\
 A folder is a family: its files with a font's ending, by name. Files that are
 named in a row are one family. A file that cannot be used is skipped, with the
 reason on standard error. FILE in --override and --not-held is a path as given
 here or a file's name. A job has at most 256 faces, 64 families of up to 64
 faces, 256 overrides and 256 requests.
 
+",
+            collections!(),
+            "
 A line of a requests file has words such as weight=700 style=oblique:12
 width=0.75 most=8; what it leaves out is as the options say. # starts a comment.
 "
+        )
     };
 }
 
@@ -92,12 +110,13 @@ character map lies.
     "\n",
     files_and_requests!(),
     "
-JSON is one object:
-  families  [{folder or null, fallback, files: [..]}], by number
+JSON is one object, in which number is that of a collection's font, else null:
+  families  [{folder or null, fallback, files: [..], numbers: [..]}], by number,
+            with a file and a number for each place
   requests  [{attributes: {width, style, angle or null, weight}, most, offers:
-            [{file, family, place, settings: [{tag, value}], embolden, skew,
-            charmap: {offset, symbol, macRoman}}]}]
-  skipped   [{file, refusal or null, reason}]
+            [{file, number, family, place, settings: [{tag, value}], embolden,
+            skew, charmap: {offset, symbol, macRoman}}]}]
+  skipped   [{file, number, refusal or null, reason}]
 "
 );
 
@@ -105,10 +124,10 @@ const LIST: &str = concat!(
     "\
 usage: stemhook list [OPTION]... DIR|FILE...
 
-Prints what was read of each font file: width, style, weight, axes and character
-map, and the same after overrides. It is the plain reading, which is compared
-with the proved picker's on generated and damaged fonts; that a file is unusable
-is the picker's own word. Any number of files will do.
+Prints what was read of each font: width, style, weight, axes and character map,
+and the same after overrides. It is the plain reading, which is compared with the
+proved picker's on generated and damaged fonts; that a font is unusable is the
+picker's own word. Any number of files will do.
 
   --override SPEC   FILE:KEY=VALUE,.. in place of what FILE says of itself: width,
                     style, weight, or the default of an axis by its tag
@@ -119,11 +138,14 @@ is the picker's own word. Any number of files will do.
     "
 From a folder, files with a font's ending are taken; others are counted.
 
-JSON is one object:
-  faces       [{file, read: R, overridden: R or null}], R being {width, style,
-              angle or null, weight, axes: [{tag, minimum, default, maximum}],
-              charmap: {offset, symbol, macRoman}}
-  skipped     [{file, refusal or null, reason}]
+",
+    collections!(),
+    "
+JSON is one object, in which number is that of a collection's font, else null:
+  faces       [{file, number, read: R, overridden: R or null}], R being {width,
+              style, angle or null, weight, axes: [{tag, minimum, default,
+              maximum}], charmap: {offset, symbol, macRoman}}
+  skipped     [{file, number, refusal or null, reason}]
   passedOver  how many files have no font's ending
 "
 );
@@ -154,8 +176,8 @@ usage: stemhook specimen [OPTION]... -o PAGE DIR|FILE... [--family DIR|FILE...].
 
 Writes one HTML page that shows each request and its offers: a text in the font
 that is offered, varied, emboldened and skewed as the offer says. The fonts are
-in the page. A value that lies outside its axis's range is marked. The page is
-written whole or not at all.
+in the page, those of a collection taken out of it. A value that lies outside its
+axis's range is marked. The page is written whole or not at all.
 
   -o, --output PAGE the file to write; - is standard output
   --text TEXT       the text to set

@@ -1,21 +1,19 @@
 //! The command `list`: what was read of each face.
 
-use std::{
-    io::{self, BufWriter, IsTerminal, Write},
-    path::Path,
-};
+use std::io::{self, BufWriter, IsTerminal, Write};
 
-use stemhook::JobBuilder;
+use stemhook::{FontFile, JobBuilder};
 
 use crate::{
     face::Reading,
     failure::Failure,
-    files::{self, Family, Skipped},
+    files::{self, Family, MOST_TOLD, Skipped, more},
+    font::Font,
     json::Json,
     load::{are_there, differs, fault, is_usable, other_files},
     options::Options,
     overrides::names,
-    pick::skipped_json,
+    pick::{font_json, skipped_json},
     progress::Progress,
     words::shown,
 };
@@ -70,27 +68,48 @@ impl<W: Write> List<'_, W> {
             indent = "  ";
         }
         for file in &family.files {
-            progress.step(file);
-            match self.read(file) {
-                Ok((own, after)) => self.face(indent, file, &own, after.as_ref())?,
-                Err(skipped) => self.skip(indent, skipped)?,
+            progress.step(&file.file);
+            match files::read(&file.file) {
+                Ok(bytes) => self.file(indent, file, &bytes)?,
+                Err(reason) => self.skip(indent, Skipped::new(file, reason))?,
             }
         }
         Ok(())
     }
 
-    /// What a file says, and what it is after the overrides, if there are any.
-    fn read(&self, file: &Path) -> Result<(Reading, Option<Reading>), Skipped> {
-        let bytes = files::read(file).map_err(|reason| Skipped::new(file, reason))?;
-        // Whether it can be used is the picker's word.
-        if let Err(error) = JobBuilder::new().face(&bytes) {
-            let other = || Skipped::new(file, error.to_string());
-            return Err(fault(&error, file).unwrap_or_else(other));
+    /// The fonts of a file.
+    fn file(&mut self, indent: &str, file: &Font, bytes: &[u8]) -> io::Result<()> {
+        if let Some(skipped) = Skipped::over_numbered(file, bytes) {
+            self.skip(indent, skipped)?;
         }
-        let own = Reading::of(&bytes).ok_or_else(|| Skipped::new(file, differs(file)))?;
+        let told = self.skipped.len() + MOST_TOLD;
+        for font in file.each(bytes) {
+            match self.read(&font, bytes) {
+                Ok((own, after)) => self.face(indent, &font, &own, after.as_ref())?,
+                Err(skipped) if self.skipped.len() < told => self.skip(indent, skipped)?,
+                Err(skipped) => self.skipped.push(skipped),
+            }
+        }
+        if self.skipped.len() > told && !self.options.json {
+            let more = more(self.skipped.len() - told);
+            writeln!(self.out, "{indent}{}: {more}", name(indent, file))?;
+        }
+        Ok(())
+    }
+
+    /// What a font says, and what it is after the overrides, if there are any.
+    fn read(&self, font: &Font, bytes: &[u8]) -> Result<(Reading, Option<Reading>), Skipped> {
+        let number = font.index();
+        // Whether it can be used is the picker's word.
+        if let Err(error) = JobBuilder::new().face(FontFile::new(bytes).number(number)) {
+            let other = || Skipped::new(font, error.to_string());
+            return Err(fault(&error, font).unwrap_or_else(other));
+        }
+        let own = Reading::of(bytes, number);
+        let own = own.ok_or_else(|| Skipped::new(font, differs(font)))?;
         let mut after = None;
         for given in &self.options.overrides {
-            if names(&given.file, file) {
+            if names(&given.file, font) {
                 after.get_or_insert_with(|| own.clone()).apply(&given.given);
             }
         }
@@ -100,20 +119,19 @@ impl<W: Write> List<'_, W> {
     fn face(
         &mut self,
         indent: &str,
-        file: &Path,
+        font: &Font,
         own: &Reading,
         after: Option<&Reading>,
     ) -> io::Result<()> {
         if self.options.json {
             let comma = if self.faces == 0 { "" } else { "," };
-            let face = Json::Object(vec![
-                ("file", Json::path(file)),
-                ("read", own.json()),
-                ("overridden", after.map_or(Json::Null, Reading::json)),
-            ]);
+            let mut face = font_json(font);
+            face.push(("read", own.json()));
+            face.push(("overridden", after.map_or(Json::Null, Reading::json)));
+            let face = Json::Object(face);
             write!(self.out, "{comma}\n    {}", face.spread(0))?;
         } else {
-            let name = name(indent, file);
+            let name = name(indent, font);
             writeln!(self.out, "{indent}{name}: {}", own.words())?;
             if let Some(after) = after {
                 writeln!(self.out, "{indent}  after overrides: {}", after.words())?;
@@ -125,7 +143,7 @@ impl<W: Write> List<'_, W> {
 
     fn skip(&mut self, indent: &str, skipped: Skipped) -> io::Result<()> {
         if !self.options.json {
-            let name = name(indent, &skipped.file);
+            let name = name(indent, &skipped.font);
             writeln!(self.out, "{indent}{name}: unusable: {}", skipped.reason)?;
         }
         self.skipped.push(skipped);
@@ -152,10 +170,11 @@ impl<W: Write> List<'_, W> {
     }
 }
 
-/// A file's name below its folder's, or its path.
-fn name(indent: &str, file: &Path) -> String {
-    match file.file_name() {
-        Some(name) if !indent.is_empty() => shown(name),
-        _ => shown(file),
+/// A font's name below its folder's, or with its path.
+fn name(indent: &str, font: &Font) -> String {
+    if indent.is_empty() {
+        font.shown()
+    } else {
+        font.name()
     }
 }

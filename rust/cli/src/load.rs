@@ -13,32 +13,35 @@ use stemhook::{
 use crate::{
     face::Reading,
     failure::{Failure, failed, say},
-    files::{self, Found, Skipped},
+    files::{self, Found, MOST_TOLD, Skipped, more},
+    font::Font,
     options::Options,
-    overrides::names,
+    overrides::{names, names_file},
     progress::Progress,
-    requests,
+    requests, sfnt,
     values::Asked,
     words::shown,
 };
 
 /// A face of the job.
 pub struct Face {
-    pub file: PathBuf,
+    pub font: Font,
     /// After all overrides.
     pub reading: Reading,
     digest: u64,
 }
 
 impl Face {
-    /// The bytes of its file, if it still is what was read.
+    /// The bytes of its file, if it still is what was read; a font of a
+    /// collection is taken out of it.
     pub fn bytes(&self) -> Result<Vec<u8>, String> {
-        let bytes = files::read(&self.file)?;
-        if digest(&bytes) == self.digest {
-            Ok(bytes)
-        } else {
-            Err("it has changed since it was read".into())
-        }
+        let bytes = files::read(&self.font.file)?;
+        let same = digest(&bytes) == self.digest;
+        let alone = match self.font.number {
+            Some(number) if same => sfnt::taken_out(&bytes, number),
+            _ => same.then_some(bytes),
+        };
+        alone.ok_or_else(|| "it has changed since it was read".into())
     }
 }
 
@@ -119,9 +122,9 @@ pub fn are_there(options: &Options, found: &Found) -> Result<(), Failure> {
     let named = overrides
         .map(|given| ("--override", &given.file))
         .chain(options.not_held.iter().map(|file| ("--not-held", file)));
-    let files: Vec<&PathBuf> = found.families.iter().flat_map(|f| &f.files).collect();
+    let files: Vec<&Font> = found.families.iter().flat_map(|f| &f.files).collect();
     for (option, name) in named {
-        if !files.iter().any(|file| names(name, file)) {
+        if !files.iter().any(|file| is_of(name, file)) {
             let name = shown(name);
             return failed(format!("{option} {name}: no such file is among the fonts"));
         }
@@ -129,11 +132,25 @@ pub fn are_there(options: &Options, found: &Found) -> Result<(), Failure> {
     Ok(())
 }
 
+/// Whether a name is that of a file or of a font in it. Which numbers it has is
+/// read from the file.
+fn is_of(name: &Path, file: &Font) -> bool {
+    let one = || Font::numbered(name).is_some_and(|one| names_file(&one.file, &file.file));
+    let named = |bytes: Vec<u8>| file.each(&bytes).iter().any(|font| names(name, font));
+    names(name, file) || (one() && files::read(&file.file).is_ok_and(named))
+}
+
 /// Tells of what is not used.
 fn tell(skipped: &[Skipped], others: usize) {
-    for skipped in skipped {
-        let Skipped { file, reason, .. } = skipped;
-        say(&format!("stemhook: skipped {}: {reason}", shown(file)));
+    let tell = |name, reason: &str| say(&format!("stemhook: skipped {name}: {reason}"));
+    for of_file in skipped.chunk_by(|one, next| one.font.file == next.font.file) {
+        for Skipped { font, reason, .. } in of_file.iter().take(MOST_TOLD) {
+            tell(font.shown(), reason);
+        }
+        if of_file.len() > MOST_TOLD {
+            let name = shown(&of_file[0].font.file);
+            tell(name, &more(of_file.len() - MOST_TOLD));
+        }
     }
     if others > 0 {
         say(&format!("stemhook: {} passed over", other_files(others)));
@@ -155,21 +172,21 @@ pub fn is_usable(faces: usize, skipped: &[Skipped]) -> Result<(), Failure> {
                 0 => String::new(),
                 count => format!(" (and {count} more)"),
             };
-            let (file, reason) = (shown(&first.file), &first.reason);
-            failed(format!("no font can be used: {file}: {reason}{and}"))
+            let (font, reason) = (first.font.shown(), &first.reason);
+            failed(format!("no font can be used: {font}: {reason}{and}"))
         }
     }
 }
 
-/// What is wrong with a font file; none where the error is about the job.
-pub fn fault(error: &BuildError, file: &Path) -> Option<Skipped> {
+/// What is wrong with a font; none where the error is about the job.
+pub fn fault(error: &BuildError, font: &Font) -> Option<Skipped> {
     match error.problem() {
         Problem::Font { refusal, fault } => Some(Skipped {
-            file: file.to_owned(),
+            font: font.clone(),
             refusal: Some(refusal.number()),
             reason: fault.to_string(),
         }),
-        Problem::FontTooLong => Some(Skipped::new(file, error.problem().to_string())),
+        Problem::FontTooLong => Some(Skipped::new(font, error.problem().to_string())),
         _ => None,
     }
 }
@@ -186,14 +203,38 @@ fn about(name: &str, error: &BuildError) -> Failure {
     })
 }
 
+/// That a family is too large, with the file of the most fonts if it is a
+/// collection.
+fn too_many(family: &str, (fonts, file): (usize, String)) -> String {
+    let limit = format!(
+        "{family}: a family has at most {} faces",
+        limits::FAMILY_FACES
+    );
+    if fonts > 1 {
+        return format!(
+            "{limit}, and {file} has {fonts} fonts: name fewer files, or single fonts as FILE#N"
+        );
+    }
+    format!("{limit}: name fewer files")
+}
+
 struct Loader<'a> {
     options: &'a Options,
     builder: JobBuilder,
     faces: Vec<Face>,
     families: Vec<Family>,
     skipped: Vec<Skipped>,
-    /// What became of each file: a file that stands in two families is one face.
-    known: HashMap<PathBuf, Option<FaceId>>,
+    /// What became of each file and of each font by its number: a font that
+    /// stands in two families is one face.
+    known: HashMap<Font, Known>,
+}
+
+/// A file or a font: how many fonts it has, and the faces of those that can be
+/// used.
+#[derive(Clone, Default)]
+struct Known {
+    fonts: usize,
+    faces: Vec<FaceId>,
 }
 
 impl<'a> Loader<'a> {
@@ -210,21 +251,16 @@ impl<'a> Loader<'a> {
 
     fn family(&mut self, family: &files::Family, progress: &mut Progress) -> Result<(), Failure> {
         let mut faces = Vec::new();
+        // The most fonts of a file.
+        let mut most = (0, String::new());
         for file in &family.files {
-            progress.step(file);
-            let known = self.known.get(file).copied();
-            let face = match known {
-                Some(face) => face,
-                None => self.file(file)?,
-            };
-            self.known.insert(file.clone(), face);
-            faces.extend(face);
+            progress.step(&file.file);
+            let known = self.file(file)?;
+            most = most.max((known.fonts, file.name()));
+            faces.extend(known.faces);
             if faces.len() > limits::FAMILY_FACES {
-                let name = shown(family.folder.as_ref().unwrap_or(file));
-                let limit = limits::FAMILY_FACES;
-                return failed(format!(
-                    "{name}: a family has at most {limit} faces: name fewer files"
-                ));
+                let name = shown(family.folder.as_ref().unwrap_or(&file.file));
+                return failed(too_many(&name, most));
             }
         }
         self.families.push(Family {
@@ -235,53 +271,82 @@ impl<'a> Loader<'a> {
         Ok(())
     }
 
-    /// Adds the face of a file, or says why it is skipped.
-    fn file(&mut self, file: &Path) -> Result<Option<FaceId>, Failure> {
-        let bytes = match files::read(file) {
-            Ok(bytes) => bytes,
-            Err(reason) => {
-                self.skipped.push(Skipped::new(file, reason));
-                return Ok(None);
-            }
-        };
-        let name = shown(file);
-        let mut font = FontFile::new(&bytes).named(&name);
-        if self.options.not_held.iter().any(|given| names(given, file)) {
-            font = font.not_held();
+    /// Adds the faces of a file's fonts, or says why it is skipped. Faces past
+    /// those of a family are not looked for.
+    fn file(&mut self, file: &Font) -> Result<Known, Failure> {
+        if let Some(known) = self.known.get(file) {
+            return Ok(known.clone());
         }
-        if self.options.whole {
-            font = font.whole();
-        }
-        match self.builder.face(font) {
-            Ok(face) => self.face(file, &bytes, face).map(Some),
-            Err(error) => match fault(&error, file) {
-                Some(skipped) => {
-                    self.skipped.push(skipped);
-                    Ok(None)
+        let mut known = Known::default();
+        match files::read(&file.file) {
+            Ok(bytes) => {
+                self.skipped.extend(Skipped::over_numbered(file, &bytes));
+                let digest = digest(&bytes);
+                let fonts = file.each(&bytes);
+                known.fonts = fonts.len();
+                for font in fonts {
+                    known.faces.extend(self.font(font, &bytes, digest)?);
+                    if known.faces.len() > limits::FAMILY_FACES {
+                        break;
+                    }
                 }
-                None => Err(about(&name, &error)),
-            },
+            }
+            Err(reason) => self.skipped.push(Skipped::new(file, reason)),
         }
+        self.known.insert(file.clone(), known.clone());
+        Ok(known)
     }
 
-    /// Notes a face that the builder has taken, and applies its overrides.
-    fn face(&mut self, file: &Path, bytes: &[u8], face: FaceId) -> Result<FaceId, Failure> {
-        let Some(mut reading) = Reading::of(bytes) else {
-            return failed(differs(file));
+    /// Adds the face of a font that was not met before, or says why it is skipped.
+    fn font(&mut self, font: Font, bytes: &[u8], digest: u64) -> Result<Vec<FaceId>, Failure> {
+        if let Some(known) = self.known.get(&font) {
+            return Ok(known.faces.clone());
+        }
+        let name = font.shown();
+        let mut given = FontFile::new(bytes).number(font.index()).named(&name);
+        if self.options.not_held.iter().any(|name| names(name, &font)) {
+            given = given.not_held();
+        }
+        if self.options.whole {
+            given = given.whole();
+        }
+        let mut faces = Vec::new();
+        match self.builder.face(given) {
+            Ok(face) => {
+                let reading = self.overridden(&font, bytes, face)?;
+                self.faces.push(Face {
+                    font: font.clone(),
+                    reading,
+                    digest,
+                });
+                faces.push(face);
+            }
+            Err(error) => match fault(&error, &font) {
+                Some(skipped) => self.skipped.push(skipped),
+                None => return Err(about(&name, &error)),
+            },
+        }
+        let known = Known {
+            fonts: 1,
+            faces: faces.clone(),
+        };
+        self.known.insert(font, known);
+        Ok(faces)
+    }
+
+    /// Applies the overrides of a face that the builder has taken.
+    fn overridden(&mut self, font: &Font, bytes: &[u8], face: FaceId) -> Result<Reading, Failure> {
+        let Some(mut reading) = Reading::of(bytes, font.index()) else {
+            return failed(differs(font));
         };
         for given in &self.options.overrides {
-            if names(&given.file, file) {
+            if names(&given.file, font) {
                 let done = self.builder.override_face(face, &given.given);
-                done.map_err(|error| about(&shown(file), &error))?;
+                done.map_err(|error| about(&font.shown(), &error))?;
                 reading.apply(&given.given);
             }
         }
-        self.faces.push(Face {
-            file: file.to_owned(),
-            reading,
-            digest: digest(bytes),
-        });
-        Ok(face)
+        Ok(reading)
     }
 
     /// The job of all families, with the requests.
@@ -317,7 +382,7 @@ impl<'a> Loader<'a> {
 
 /// The picker takes a font that the plain reading refuses. The two are compared
 /// so that this does not arise.
-pub fn differs(file: &Path) -> String {
-    let file = shown(file);
-    format!("{file}: the picker and the plain reading differ on this font")
+pub fn differs(font: &Font) -> String {
+    let font = font.shown();
+    format!("{font}: the picker and the plain reading differ on this font")
 }

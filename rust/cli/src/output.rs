@@ -55,8 +55,8 @@ pub fn is_no_input(target: &Path, options: &Options, loaded: &Loaded) -> Result<
     let same = |file: &PathBuf| {
         fs::metadata(file).is_ok_and(|other| (other.dev(), other.ino()) == (own.dev(), own.ino()))
     };
-    let faces = loaded.faces.iter().map(|face| &face.file);
-    let mut fonts = faces.chain(loaded.skipped.iter().map(|skipped| &skipped.file));
+    let faces = loaded.faces.iter().map(|face| &face.font.file);
+    let mut fonts = faces.chain(loaded.skipped.iter().map(|skipped| &skipped.font.file));
     let what = if fonts.any(same) {
         "it is one of the fonts"
     } else if options.requests.as_ref().is_some_and(same) {

@@ -12,11 +12,12 @@ use stemhook::{Override, Tag};
 
 use crate::{
     failure::{Failure, usage},
+    font::Font,
     values,
     words::shown,
 };
 
-/// An override, and the file that it is for.
+/// An override, and the file or the font that it is for.
 #[derive(Clone, Debug, PartialEq)]
 pub struct FileOverride {
     pub file: PathBuf,
@@ -45,9 +46,20 @@ impl FileOverride {
     }
 }
 
+/// Whether a name is that of a font: its file's, or its own, FILE#N, unless a
+/// file beside it has that very name.
+pub fn names(name: &Path, font: &Font) -> bool {
+    let own = |one: Font| one.index() == font.index() && names_file(&one.file, &font.file);
+    let very_name = || {
+        font.file
+            .with_file_name(name.file_name().unwrap_or_default())
+    };
+    names_file(name, &font.file) || (Font::numbered(name).is_some_and(own) && !very_name().exists())
+}
+
 /// Whether a name is that of a file: its path, however it is written, or its
 /// name alone.
-pub fn names(name: &Path, file: &Path) -> bool {
+pub fn names_file(name: &Path, file: &Path) -> bool {
     let real = |path: &Path| fs::canonicalize(path).ok();
     name == file
         || Some(name.as_os_str()) == file.file_name()
@@ -156,10 +168,20 @@ mod tests {
 
     #[test]
     fn by_path_or_by_name() {
-        let file = Path::new("fonts/a.ttf");
-        assert!(names(Path::new("fonts/a.ttf"), file));
-        assert!(names(Path::new("a.ttf"), file));
-        assert!(!names(Path::new("b/a.ttf"), file));
-        assert!(!names(Path::new("fonts"), file));
+        let lone = Font::file(Path::new("fonts/a.ttf"));
+        let second = Font {
+            number: Some(1),
+            ..lone.clone()
+        };
+        for name in ["fonts/a.ttf", "a.ttf"] {
+            assert!(names(Path::new(name), &lone) && names(Path::new(name), &second));
+        }
+        for name in ["b/a.ttf", "fonts", "b/a.ttf#1"] {
+            assert!(!names(Path::new(name), &lone) && !names(Path::new(name), &second));
+        }
+        for (name, own) in [("a.ttf#0", &lone), ("fonts/a.ttf#1", &second)] {
+            assert!(names(Path::new(name), own), "{name}");
+            assert_eq!(names(Path::new(name), &lone), own == &lone);
+        }
     }
 }

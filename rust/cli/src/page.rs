@@ -12,7 +12,6 @@ use crate::{
     output::Broken,
     pick::done,
     values::{Asked, style_words},
-    words::shown,
 };
 
 const STYLE: &str = include_str!("page.css");
@@ -105,11 +104,10 @@ impl<'a> Page<'a> {
     /// The row of an offer.
     fn row(&self, pick: &Pick, face: &Face) -> String {
         let positions = positions(pick, face);
-        let name = shown(face.file.file_name().unwrap_or_default());
         let mut what = format!(
             "<b title=\"{}\">{}</b>\n",
-            escaped(&shown(&face.file)),
-            escaped(&name)
+            escaped(&face.font.shown()),
+            escaped(&face.font.name())
         );
         for done in done(pick) {
             what += &format!("<span class=\"done\">{}</span>\n", escaped(&done));
@@ -263,11 +261,11 @@ fn asked_html(asked: &Asked) -> String {
     format!("<dl>\n{}</dl>\n", items.collect::<String>())
 }
 
-/// The bytes of a face's file, once more.
+/// The bytes of a face's font, once more.
 fn bytes(face: &Face) -> Result<Vec<u8>, Broken> {
     face.bytes().map_err(|reason| {
-        let file = shown(&face.file);
-        Broken::Content(Failure::Failed(format!("{file}: {reason}")))
+        let font = face.font.shown();
+        Broken::Content(Failure::Failed(format!("{font}: {reason}")))
     })
 }
 

@@ -4,12 +4,12 @@ use crate::{
     face::{attributes_json, charmap_json, charmap_words},
     failure::Failure,
     files::Skipped,
+    font::Font,
     json::Json,
     load::{Family, Loaded, Pick, load},
     options::Options,
     output,
     values::Asked,
-    words::shown,
 };
 
 pub fn run(options: &Options) -> Result<(), Failure> {
@@ -38,10 +38,10 @@ fn text(loaded: &Loaded, picks: &[Vec<Pick>]) -> String {
 }
 
 fn line(loaded: &Loaded, pick: &Pick) -> String {
-    let file = loaded.faces.get(pick.face).map(|face| shown(&face.file));
+    let font = loaded.faces.get(pick.face).map(|face| face.font.shown());
     let done = done(pick).join(", ");
     let charmap = charmap_words(&pick.offer.charmap);
-    format!("{}: {done}; {charmap}", file.unwrap_or_default())
+    format!("{}: {done}; {charmap}", font.unwrap_or_default())
 }
 
 /// What is to be done to the face of an offer.
@@ -85,21 +85,31 @@ fn json(loaded: &Loaded, picks: &[Vec<Pick>]) -> Json {
     ])
 }
 
-fn file_json(loaded: &Loaded, face: usize) -> Json {
-    let face = loaded.faces.get(face);
-    face.map_or(Json::Null, |face| Json::path(&face.file))
+/// The file of a font, and its number where the file is a collection.
+pub fn font_json(font: &Font) -> Vec<(&'static str, Json)> {
+    vec![
+        ("file", Json::path(&font.file)),
+        ("number", number_json(font)),
+    ]
+}
+
+fn number_json(font: &Font) -> Json {
+    let number = font.number;
+    number.map_or(Json::Null, |number| Json::Whole(number.into()))
 }
 
 fn family_json(loaded: &Loaded, family: &Family) -> Json {
-    let files = family.faces.iter();
+    let faces = family.faces.iter();
+    let fonts = faces.filter_map(|id| loaded.faces.get(id.index()).map(|face| &face.font));
+    let (files, numbers) = fonts
+        .map(|font| (Json::path(&font.file), number_json(font)))
+        .unzip();
     let folder = family.folder.as_ref();
     Json::Object(vec![
         ("folder", folder.map_or(Json::Null, |path| Json::path(path))),
         ("fallback", Json::Bool(family.fallback)),
-        (
-            "files",
-            Json::List(files.map(|id| file_json(loaded, id.index())).collect()),
-        ),
+        ("files", Json::List(files)),
+        ("numbers", Json::List(numbers)),
     ])
 }
 
@@ -123,26 +133,27 @@ fn offer_json(loaded: &Loaded, pick: &Pick) -> Json {
             ("value", Json::Number(setting.value)),
         ])
     });
-    Json::Object(vec![
-        ("file", file_json(loaded, pick.face)),
+    let face = loaded.faces.get(pick.face);
+    let mut pairs = face.map_or(Vec::new(), |face| font_json(&face.font));
+    pairs.extend([
         ("family", Json::Whole(offer.family.number().into())),
         ("place", Json::Whole(offer.place.into())),
         ("settings", Json::List(settings.collect())),
         ("embolden", Json::Bool(offer.embolden)),
         ("skew", Json::Whole(offer.skew.into())),
         ("charmap", charmap_json(&offer.charmap)),
-    ])
+    ]);
+    Json::Object(pairs)
 }
 
-/// A file that is not used.
+/// A file or a font that is not used.
 pub fn skipped_json(skipped: &Skipped) -> Json {
     let refusal = skipped.refusal;
-    Json::Object(vec![
-        ("file", Json::path(&skipped.file)),
-        (
-            "refusal",
-            refusal.map_or(Json::Null, |number| Json::Whole(number.into())),
-        ),
+    let refusal = refusal.map_or(Json::Null, |number| Json::Whole(number.into()));
+    let mut pairs = font_json(&skipped.font);
+    pairs.extend([
+        ("refusal", refusal),
         ("reason", Json::text(&skipped.reason)),
-    ])
+    ]);
+    Json::Object(pairs)
 }

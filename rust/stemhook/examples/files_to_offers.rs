@@ -1,5 +1,5 @@
-//! The whole way, timed: font files of a folder, a family of them, a job, the
-//! offers for four requests; with whole files in the job, and with just what
+//! The whole way, timed: font files of a folder, a family of their fonts, a job,
+//! the offers for four requests; with whole files in the job, and with just what
 //! the picker looks at.
 //!
 //!     cargo run --release --example files_to_offers -- FOLDER..
@@ -12,7 +12,10 @@ use std::{
     time::{Duration, Instant},
 };
 
-use stemhook::{Angle, Attributes, FontFile, Job, JobBuilder, Request, Style};
+use stemhook::{
+    Angle, Attributes, BuildError, FaceId, FontFile, Job, JobBuilder, Request, Style, face_count,
+    limits::FAMILY_FACES,
+};
 
 const ROUNDS: usize = 21;
 
@@ -35,21 +38,37 @@ fn main() -> Result<(), Box<dyn Error>> {
     Ok(())
 }
 
-/// The files of a folder that can be read as a font, up to a family's most.
+/// The files of a folder whose fonts can be read, up to a family's most.
 fn usable(folder: &Path) -> Result<Vec<String>, Box<dyn Error>> {
     let mut files = Vec::new();
     for entry in fs::read_dir(folder)? {
         let entry = entry?;
-        if !entry.file_type()?.is_file() {
-            continue;
-        }
-        if JobBuilder::new().face(&fs::read(entry.path())?).is_ok() {
+        if entry.file_type()?.is_file() {
             files.push(entry.file_name().to_string_lossy().into_owned());
         }
     }
     files.sort();
-    files.truncate(stemhook::limits::FAMILY_FACES);
-    Ok(files)
+    let mut count = 0;
+    let mut usable = Vec::new();
+    for file in files {
+        let bytes = fs::read(folder.join(&file))?;
+        let faces = add(&mut JobBuilder::new(), &bytes, false).unwrap_or_default();
+        count += faces.len();
+        if count <= FAMILY_FACES && !faces.is_empty() {
+            usable.push(file);
+        }
+    }
+    Ok(usable)
+}
+
+/// Adds the faces of a file: the fonts of a collection, or the one font.
+fn add(builder: &mut JobBuilder, file: &[u8], whole: bool) -> Result<Vec<FaceId>, BuildError> {
+    let font = FontFile::new(file);
+    let font = if whole { font.whole() } else { font };
+    let numbers = (0..=u16::MAX).take(face_count(file) as usize);
+    numbers
+        .map(|number| builder.face(font.number(number)))
+        .collect()
 }
 
 /// The job's length and the middle of the times of some rounds.
@@ -81,12 +100,11 @@ fn measured(folder: &Path, files: &[String], whole: bool) -> Result<String, Box<
     Ok(format!("{length} | {read} | {built} | {offers} | {all}"))
 }
 
-fn build(fonts: &[Vec<u8>], whole: bool) -> Result<Job<'static>, Box<dyn Error>> {
+fn build(files: &[Vec<u8>], whole: bool) -> Result<Job<'static>, Box<dyn Error>> {
     let mut builder = JobBuilder::new();
     let mut faces = Vec::new();
-    for font in fonts {
-        let font = FontFile::new(font);
-        faces.push(builder.face(if whole { font.whole() } else { font })?);
+    for file in files {
+        faces.extend(add(&mut builder, file, whole)?);
     }
     let families = vec![builder.family(&faces)?];
     for (style, weight) in [

@@ -3,6 +3,9 @@
  *
  *     cc pick.c $(pkg-config --cflags --libs stemhook) -o pick && ./pick 700 FILE...
  *
+ * All fonts of a collection (.ttc) are faces of the family, and are called FILE#N, by their numbers from 0. FILE#N as an
+ * argument takes one of them, unless there is a file of that very name.
+ *
  * Ends with 0; with 1 where a file cannot be read or is refused; with 2 where the arguments are wrong.
  */
 #include <errno.h>
@@ -112,11 +115,19 @@ static float single_at(const uint8_t *bytes)
 
 /* ---- the job */
 
-/* The files, and the positions of their length fields in the job. */
-struct files {
-    char **names;
+/* A face: its file, as far as that is named by the first bytes of an argument, and the font's number in it. */
+struct face {
+    const char *name;
+    int name_length;
+    int collection;
+    unsigned number;
+    /* Where its entry in the job begins and ends. */
+    size_t start, end;
+};
+
+struct faces {
     unsigned count;
-    size_t at[STEMHOOK_FAMILY_FACES];
+    struct face list[STEMHOOK_FAMILY_FACES];
 };
 
 /* Why nothing more could be put; `name` is the file that was being read, or NULL. */
@@ -129,46 +140,139 @@ static void tell_failure(enum failure failure, const char *name)
         fprintf(stderr, "out of memory\n");
 }
 
-/* Puts the bytes of a file after their length; 0 where it fails, which is told. */
-static int put_file(struct buffer *job, const char *name)
+/* The name of a face; of a font of a collection, with its number. */
+static void print_name(FILE *stream, const struct face *face)
 {
-    size_t at = job->length, length;
-    FILE *stream = fopen(name, "rb");
-    int read;
+    fprintf(stream, "%.*s", face->name_length, face->name);
+    if (face->collection)
+        fprintf(stream, "#%u", face->number);
+}
 
-    if (stream == NULL) {
-        fprintf(stderr, "pick: %s: %s\n", name, strerror(errno));
+/* Parts FILE#N; 0 where the name does not end so, or the number has over 16 bits. */
+static int part_number(const char *name, int *name_length, unsigned *number)
+{
+    const char *mark = strrchr(name, '#'), *digit;
+
+    if (mark == NULL || mark == name || mark[1] == '\0')
         return 0;
+    *number = 0;
+    for (digit = mark + 1; *digit != '\0'; digit++) {
+        if (*digit < '0' || *digit > '9')
+            return 0;
+        *number = 10 * *number + (unsigned)(*digit - '0');
+        if (*number > UINT16_MAX)
+            return 0;
     }
-    put_word(job, 0);
-    read = put_stream(job, stream);
-    if (!read)
-        fprintf(stderr, "pick: %s: %s\n", name, strerror(errno));
-    else if (job->failure != NO_FAILURE)
-        tell_failure(job->failure, name);
-    fclose(stream);
-    if (!read || job->failure != NO_FAILURE)
-        return 0;
-    /* The length is known now. */
-    length = job->length - at - 4;
-    job->length = at;
-    put_word(job, (uint32_t)length);
-    job->length += length;
+    *name_length = (int)(mark - name);
     return 1;
 }
 
-/* Faces, all held, and no overrides. */
-static int put_faces(struct buffer *job, struct files *files)
+/* Opens FILE, or FILE of FILE#N: `numbered` says which it was. NULL where it cannot be opened, with errno set. */
+static FILE *open_file(const char *name, struct face *face, int *numbered)
 {
-    unsigned face;
+    FILE *stream = fopen(name, "rb");
+    char *start;
+    int error;
 
-    put_half(job, files->count);
-    for (face = 0; face < files->count; face++) {
-        put_byte(job, 1);
-        files->at[face] = job->length;
-        if (!put_file(job, files->names[face]))
-            return 0;
+    face->name = name;
+    face->name_length = (int)strlen(name);
+    face->number = 0;
+    *numbered = stream == NULL && part_number(name, &face->name_length, &face->number);
+    if (!*numbered)
+        return stream;
+    start = (char *)malloc((size_t)face->name_length + 1);
+    if (start == NULL)
+        return NULL;
+    memcpy(start, name, (size_t)face->name_length);
+    start[face->name_length] = '\0';
+    stream = fopen(start, "rb");
+    error = errno;
+    free(start);
+    errno = error;
+    return stream;
+}
+
+/* Puts a face, which is held, and notes it. */
+static void put_face(struct buffer *job, struct faces *faces, struct face face, const struct buffer *file)
+{
+    face.start = job->length;
+    put_byte(job, 1);
+    put_word(job, (uint32_t)file->length);
+    put(job, file->bytes, file->length);
+    if (face.collection)
+        put_half(job, face.number);
+    face.end = job->length;
+    faces->list[faces->count++] = face;
+}
+
+/* How many fonts a collection has; one where it has none, or not all its offsets, for the picker to refuse. */
+static uint32_t count_fonts(const struct buffer *file)
+{
+    uint32_t fonts = file->length < 12 ? 0 : word_at(file->bytes + 8);
+
+    return fonts == 0 || fonts > (file->length - 12) / 4 ? 1 : fonts;
+}
+
+/* Puts the fonts of a file that was read: all, or the one of a number; 0 where they cannot be, which is told. */
+static int put_fonts(struct buffer *job, struct faces *faces, struct face face, int numbered, const struct buffer *file)
+{
+    uint32_t fonts;
+
+    face.collection = file->length >= 4 && memcmp(file->bytes, "ttcf", 4) == 0;
+    fonts = face.collection && !numbered ? count_fonts(file) : 1;
+    /* The picker refuses fewer than 12 bytes, whatever the number. */
+    if (numbered && !face.collection && face.number != 0 && file->length >= 12) {
+        /* A lone font is a collection of one, and a job has no number for it. */
+        fprintf(stderr, "pick: %s: refused %d: %s\n", face.name, STEMHOOK_REFUSED_NO_SUCH_FONT,
+                stemhook_meaning(STEMHOOK_REFUSED_NO_SUCH_FONT));
+        return 0;
     }
+    if (fonts > STEMHOOK_FAMILY_FACES - faces->count) {
+        fprintf(stderr, "pick: %s: with its fonts (%" PRIu32 ") the family has more than %d faces\n", face.name, fonts,
+                STEMHOOK_FAMILY_FACES);
+        return 0;
+    }
+    for (; fonts > 0; fonts--, face.number++)
+        put_face(job, faces, face, file);
+    return 1;
+}
+
+/* Puts the faces of an argument; 0 where it fails, which is told. */
+static int put_argument(struct buffer *job, struct faces *faces, const char *name)
+{
+    struct buffer file = {NULL, 0, 0, NO_FAILURE};
+    struct face face = {NULL, 0, 0, 0, 0, 0};
+    int numbered, done = 0;
+    FILE *stream = open_file(name, &face, &numbered);
+
+    if (stream == NULL || !put_stream(&file, stream))
+        fprintf(stderr, "pick: %s: %s\n", name, strerror(errno));
+    else if (file.failure != NO_FAILURE)
+        tell_failure(file.failure, name);
+    else
+        done = put_fonts(job, faces, face, numbered, &file);
+    if (done && job->failure != NO_FAILURE) {
+        tell_failure(job->failure, name);
+        done = 0;
+    }
+    if (stream != NULL)
+        fclose(stream);
+    free(file.bytes);
+    return done;
+}
+
+/* Faces, all held, and no overrides. */
+static int put_faces(struct buffer *job, struct faces *faces, char **names, unsigned count)
+{
+    unsigned i;
+
+    put_half(job, 0);
+    for (i = 0; i < count; i++)
+        if (!put_argument(job, faces, names[i]))
+            return 0;
+    /* Their count is known now. */
+    job->bytes[0] = (uint8_t)(faces->count >> 8);
+    job->bytes[1] = (uint8_t)faces->count;
     put_half(job, 0);
     return 1;
 }
@@ -199,11 +303,11 @@ static void put_request(struct buffer *job, unsigned most, float weight)
 }
 
 /* Writes the whole job; 0 where it fails, which is told. */
-static int put_job(struct buffer *job, struct files *files, float weight)
+static int put_job(struct buffer *job, struct faces *faces, char **names, unsigned count, float weight)
 {
-    if (!put_faces(job, files))
+    if (!put_faces(job, faces, names, count))
         return 0;
-    put_family(job, files->count);
+    put_family(job, faces->count);
     put_request(job, UINT16_MAX, weight);
     if (job->failure != NO_FAILURE) {
         tell_failure(job->failure, NULL);
@@ -214,50 +318,52 @@ static int put_job(struct buffer *job, struct files *files, float weight)
 
 /* ---- the answers */
 
-/* Tells a refusal of the check call, with the file's name where it is of a font. */
-static void tell_refusal(const struct files *files, uint64_t answer)
+/* Tells a refusal of the check call, with the face's name where it is of its entry. */
+static void tell_refusal(const struct faces *faces, uint64_t answer)
 {
     uint32_t refusal = STEMHOOK_REFUSAL(answer), position = STEMHOOK_POSITION(answer);
-    unsigned face = 0;
+    unsigned i = 0;
 
-    while (face < files->count && files->at[face] != position)
-        face++;
-    if (face < files->count)
-        fprintf(stderr, "pick: %s: refused %" PRIu32 ": ", files->names[face], refusal);
+    while (i < faces->count && (position < faces->list[i].start || position >= faces->list[i].end))
+        i++;
+    fprintf(stderr, "pick: ");
+    if (i < faces->count)
+        print_name(stderr, &faces->list[i]);
     else
-        fprintf(stderr, "pick: refused %" PRIu32 " at byte %" PRIu32 ": ", refusal, position);
-    fprintf(stderr, "%s\n", stemhook_meaning(refusal));
+        fprintf(stderr, "at byte %" PRIu32, position);
+    fprintf(stderr, ": refused %" PRIu32 ": %s\n", refusal, stemhook_meaning(refusal));
 }
 
-static void print_offer(const struct files *files, const uint8_t *out)
+static void print_offer(const struct faces *faces, const uint8_t *out)
 {
     const uint8_t *slot = out + STEMHOOK_AT_SETTINGS;
     unsigned i;
 
-    /* The family lists the faces in the order of the files: a place is a file's number. */
-    printf("%s: embolden %d, skew %d, cmap %" PRIu32, files->names[half_at(out + STEMHOOK_AT_PLACE)],
-           out[STEMHOOK_AT_EMBOLDEN], (int8_t)out[STEMHOOK_AT_SKEW], word_at(out + STEMHOOK_AT_CHARMAP_OFFSET));
+    /* The family lists the faces in their order: a place is a face's number. */
+    print_name(stdout, &faces->list[half_at(out + STEMHOOK_AT_PLACE)]);
+    printf(": embolden %d, skew %d, cmap %" PRIu32, out[STEMHOOK_AT_EMBOLDEN], (int8_t)out[STEMHOOK_AT_SKEW],
+           word_at(out + STEMHOOK_AT_CHARMAP_OFFSET));
     for (i = 0; i < out[STEMHOOK_AT_SETTING_COUNT]; i++, slot += 8)
         printf(", %.4s=%.9g", (const char *)slot, (double)single_at(slot + 4));
     printf("\n");
 }
 
 /* Prints the offers of the request 0; 0 where the job is refused, which is told. */
-static int print_offers(const struct buffer *job, const struct files *files)
+static int print_offers(const struct buffer *job, const struct faces *faces)
 {
     uint64_t checked = stemhook_check(job->bytes, job->length);
     uint8_t out[STEMHOOK_OFFER_BYTES];
     uint32_t number, answer;
 
     if (checked != 0) {
-        tell_refusal(files, checked);
+        tell_refusal(faces, checked);
         return 0;
     }
     for (number = 0;; number++) {
         answer = stemhook_offer(job->bytes, job->length, 0, number, out, sizeof out);
         if (answer != STEMHOOK_OFFERED)
             break;
-        print_offer(files, out);
+        print_offer(faces, out);
     }
     /* What the check call accepts is not refused here: this would be a wrong request or output length. */
     if (answer != STEMHOOK_PAST_LIST)
@@ -276,8 +382,8 @@ static int read_weight(const char *text, float *weight)
     return end != text && *end == '\0' && isfinite(*weight);
 }
 
-/* Reads the arguments; 0 where they are wrong, which is told. */
-static int read_arguments(int count, char **arguments, struct files *files, float *weight)
+/* Reads the weight and looks at how many files there are; 0 where they are wrong, which is told. */
+static int read_arguments(int count, char **arguments, float *weight)
 {
     if (count < 3) {
         fprintf(stderr, "usage: pick WEIGHT FILE...\n");
@@ -291,21 +397,20 @@ static int read_arguments(int count, char **arguments, struct files *files, floa
         fprintf(stderr, "pick: FILE: %d are given, and a family has at most %d\n", count - 2, STEMHOOK_FAMILY_FACES);
         return 0;
     }
-    files->names = arguments + 2;
-    files->count = (unsigned)(count - 2);
     return 1;
 }
 
 int main(int count, char **arguments)
 {
     struct buffer job = {NULL, 0, 0, NO_FAILURE};
-    struct files files;
+    struct faces faces;
     float weight;
     int done;
 
-    if (!read_arguments(count, arguments, &files, &weight))
+    if (!read_arguments(count, arguments, &weight))
         return 2;
-    done = put_job(&job, &files, weight) && print_offers(&job, &files);
+    faces.count = 0;
+    done = put_job(&job, &faces, arguments + 2, (unsigned)(count - 2), weight) && print_offers(&job, &faces);
     free(job.bytes);
     if (fflush(stdout) != 0 || ferror(stdout)) {
         perror("pick: standard output");

@@ -35,7 +35,7 @@ pub enum Problem {
     FontTooLong,
     /// The picker refuses the font.
     Font {
-        /// The refusal: 21, 22 or 23.
+        /// The refusal: 21, 22, 23 or 30.
         refusal: Refusal,
         /// Why, as read from the file.
         fault: FontFault,
@@ -83,10 +83,17 @@ impl BuildError {
         }
     }
 
-    /// Of the font of a face.
+    /// Of the font of a face, or of its number.
     pub(crate) fn of_font(face: FaceId, problem: Problem) -> Self {
+        let part = match problem {
+            Problem::Font {
+                refusal: Refusal::NoSuchFont,
+                ..
+            } => "number",
+            _ => "font",
+        };
         Self {
-            field: format!("faces[{face}].font"),
+            field: format!("faces[{face}].{part}"),
             face: Some(face),
             problem,
         }

@@ -13,6 +13,8 @@ use crate::{
     job::{FaceNote, Job},
     limits,
     looked_at::looked_at,
+    refusal::Refusal,
+    tables::{HEADER, is_collection},
     tag::Tag,
 };
 
@@ -168,19 +170,22 @@ impl JobBuilder {
         let font = font.into();
         let face = FaceId::new(self.faces.next("faces", limits::FACES)?);
         let error = |problem| BuildError::of_font(face, problem);
-        let small = looked_at(font.bytes).ok_or_else(|| error(Problem::FontTooLong))?;
-        if let Err(refused) = check(&job_of_face(&small.bytes)) {
-            let refusal = refused.refusal();
-            let fault = FontFault::of(font.bytes, refusal);
+        let small = looked_at(font.bytes, font.number);
+        let small = small.ok_or_else(|| error(Problem::FontTooLong))?;
+        if let Some(refusal) = refusal(&font, &small.bytes) {
+            let fault = FontFault::of(font.bytes, font.number, refusal);
             return Err(error(Problem::Font { refusal, fault }));
         }
         let bytes = if font.whole { font.bytes } else { &small.bytes };
-        if !self.has_room(5 + bytes.len()) {
+        // The held byte, the length, and the number behind a collection.
+        let around = if is_collection(bytes) { 7 } else { 5 };
+        if !self.has_room(around + bytes.len()) {
             return Err(error(Problem::TooLong));
         }
-        self.faces.push(&face_entry(bytes, font.held));
+        self.faces.push(&face_entry(bytes, font.number, font.held));
         self.notes.push(FaceNote {
             name: font.name.to_owned(),
+            number: font.number,
             subtables: (!font.whole).then_some(small.subtables),
         });
         Ok(face)
@@ -333,19 +338,33 @@ impl fmt::Debug for JobBuilder {
     }
 }
 
-/// A face's entry: the held byte, the length, the font file.
-fn face_entry(font: &[u8], held: bool) -> Vec<u8> {
+/// A face's entry: the held byte, the length, the font file and, behind a
+/// collection, the font number.
+fn face_entry(font: &[u8], number: u16, held: bool) -> Vec<u8> {
     let mut entry = vec![u8::from(held)];
     // At most the bytes of a job.
     entry.extend((font.len() as u32).to_be_bytes());
     entry.extend_from_slice(font);
+    if is_collection(font) {
+        entry.extend(number.to_be_bytes());
+    }
     entry
 }
 
+/// The refusal of a font: the check call's, of what is looked at. A job has no
+/// number behind a lone font, which counts as a collection of one.
+fn refusal(font: &FontFile, small: &[u8]) -> Option<Refusal> {
+    if font.number > 0 && font.bytes.len() >= HEADER && !is_collection(font.bytes) {
+        return Some(Refusal::NoSuchFont);
+    }
+    let checked = check(&job_of_face(small, font.number));
+    checked.err().map(|refused| refused.refusal())
+}
+
 /// A job of one face and nothing else.
-fn job_of_face(font: &[u8]) -> Vec<u8> {
+fn job_of_face(font: &[u8], number: u16) -> Vec<u8> {
     let mut job = vec![0, 1];
-    job.extend(face_entry(font, true));
+    job.extend(face_entry(font, number, true));
     job.extend([0; 6]);
     job
 }

@@ -4,7 +4,7 @@ use std::fmt;
 
 use crate::{
     refusal::Refusal,
-    tables::{Directory, HEADER, RECORD, STARTS, half},
+    tables::{COLLECTION, Directory, HEADER, RECORD, STARTS, directory_at, face_count, half},
 };
 
 /// What is wrong with a font file that the picker refuses.
@@ -32,8 +32,34 @@ pub enum FontFault {
     Woff,
     /// A WOFF2 file: a font that is packed for the web.
     Woff2,
-    /// A collection of fonts, `ttcf`.
-    Collection,
+    /// A collection of fonts (`ttcf`) that ends before its header does.
+    CollectionShort {
+        /// How many bytes the file has.
+        length: usize,
+    },
+    /// A collection that ends before the offsets of its fonts do.
+    OffsetsPastEnd {
+        /// How many fonts it states.
+        fonts: u32,
+        /// How many bytes the file has.
+        length: usize,
+    },
+    /// The offset of the font leads past the end of the collection.
+    FontPastEnd {
+        /// The offset.
+        offset: usize,
+        /// How many bytes the file has.
+        length: usize,
+    },
+    /// The offset of the font leads to a collection.
+    NestedCollection,
+    /// The file has no font of the number.
+    NoSuchFont {
+        /// The font number.
+        number: u16,
+        /// How many fonts the file has.
+        fonts: u32,
+    },
     /// A PostScript Type 1 font.
     Type1,
     /// A font that starts with `typ1`: Type 1 in an OpenType wrapper.
@@ -44,7 +70,7 @@ pub enum FontFault {
     Start([u8; 4]),
     /// The file ends before the table directory does.
     DirectoryPastEnd {
-        /// How many bytes the header and the directory take.
+        /// Where the directory ends, from the start of the file.
         needed: usize,
         /// How many bytes the file has.
         length: usize,
@@ -71,18 +97,23 @@ pub enum FontFault {
 }
 
 impl FontFault {
-    /// What is wrong with a font file that is refused so.
-    pub(crate) fn of(file: &[u8], refusal: Refusal) -> Self {
+    /// What is wrong with a font that is refused so.
+    pub(crate) fn of(file: &[u8], number: u16, refusal: Refusal) -> Self {
+        let directory = || Directory::of(file, number);
         let fault = match refusal {
-            Refusal::FontDirectory => Some(Self::of_start(file)),
-            Refusal::NoCharmap => Directory::of(file).and_then(|found| Self::of_cmap(&found)),
-            Refusal::TooManyAxes => Directory::of(file).and_then(|found| Self::of_fvar(&found)),
+            Refusal::FontDirectory => Some(Self::of_start(file, number)),
+            Refusal::NoCharmap => directory().and_then(|found| Self::of_cmap(&found)),
+            Refusal::TooManyAxes => directory().and_then(|found| Self::of_fvar(&found)),
+            Refusal::NoSuchFont => Some(Self::NoSuchFont {
+                number,
+                fonts: face_count(file),
+            }),
             _ => None,
         };
         fault.unwrap_or(Self::Other)
     }
 
-    fn of_start(file: &[u8]) -> Self {
+    fn of_start(file: &[u8], number: u16) -> Self {
         let Some(start) = file.first_chunk::<4>() else {
             return if file.is_empty() {
                 Self::Empty
@@ -93,16 +124,40 @@ impl FontFault {
         match start {
             b"wOFF" => Self::Woff,
             b"wOF2" => Self::Woff2,
-            b"ttcf" => Self::Collection,
+            &COLLECTION => Self::of_collection(file, number),
             b"typ1" => Self::WrappedType1,
             b"%!PS" | b"%!Fo" | [0x80, 1, ..] => Self::Type1,
-            start if STARTS.contains(start) => Self::DirectoryPastEnd {
-                needed: HEADER + RECORD * usize::from(half(file, 4).unwrap_or(0)),
-                length: file.len(),
-            },
+            start if STARTS.contains(start) => Self::of_directory(file, 0),
             // Its magic number stands behind sizes and flags.
             _ if file.get(34..36) == Some(b"LP") => Self::EmbeddedOpenType,
             start => Self::Start(*start),
+        }
+    }
+
+    /// Of a collection's font that has no directory.
+    fn of_collection(file: &[u8], number: u16) -> Self {
+        let length = file.len();
+        if length < HEADER {
+            return Self::CollectionShort { length };
+        }
+        let Some(offset) = directory_at(file, number) else {
+            let fonts = face_count(file);
+            return Self::OffsetsPastEnd { fonts, length };
+        };
+        match file.get(offset..).and_then(<[u8]>::first_chunk) {
+            None => Self::FontPastEnd { offset, length },
+            Some(&COLLECTION) => Self::NestedCollection,
+            Some(start) if STARTS.contains(start) => Self::of_directory(file, offset),
+            Some(start) => Self::Start(*start),
+        }
+    }
+
+    /// Of a directory that begins in the file and ends past it.
+    fn of_directory(file: &[u8], at: usize) -> Self {
+        let records = half(file, at + 4).unwrap_or(0);
+        Self::DirectoryPastEnd {
+            needed: at + HEADER + RECORD * usize::from(records),
+            length: file.len(),
         }
     }
 
@@ -130,9 +185,13 @@ impl fmt::Display for FontFault {
             Self::Short => f.write_str("the file has fewer than four bytes"),
             Self::Woff => f.write_str("a WOFF file: unpack it to TrueType or OpenType"),
             Self::Woff2 => f.write_str("a WOFF2 file: unpack it to TrueType or OpenType"),
-            Self::Collection => f.write_str(
-                "a collection of fonts (ttcf): take its fonts out, each to its own file",
-            ),
+            Self::CollectionShort { length } => header_past_end(f, *length),
+            Self::OffsetsPastEnd { fonts, length } => offsets_past_end(f, *fonts, *length),
+            Self::FontPastEnd { offset, length } => font_past_end(f, *offset, *length),
+            Self::NestedCollection => {
+                f.write_str("its offset leads to a collection (ttcf), not to a font")
+            }
+            Self::NoSuchFont { number, fonts } => no_such_font(f, *number, *fonts),
             Self::Type1 => f.write_str("a Type 1 font: convert it to OpenType"),
             Self::WrappedType1 => f.write_str("a Type 1 font in an OpenType file: convert it"),
             Self::EmbeddedOpenType => {
@@ -143,10 +202,9 @@ impl fmt::Display for FontFault {
                 "it starts with \"{}\", as no TrueType or OpenType font does",
                 start.escape_ascii()
             ),
-            Self::DirectoryPastEnd { needed, length } => write!(
-                f,
-                "its table directory ends at byte {needed}, the file at {length}"
-            ),
+            Self::DirectoryPastEnd { needed, length } => {
+                past_end(f, "its table directory ends", *needed as u64, *length)
+            }
             Self::NoCmap => f.write_str("it has no cmap table"),
             Self::CmapPastEnd => f.write_str("its cmap table reaches past the end of the file"),
             Self::CmapShort => f.write_str("its cmap table has fewer than four bytes"),
@@ -158,5 +216,38 @@ impl fmt::Display for FontFault {
             Self::Axes { axes } => write!(f, "it has {axes} variation axes"),
             Self::Other => f.write_str("no reason was found in the file"),
         }
+    }
+}
+
+fn past_end(f: &mut fmt::Formatter<'_>, what: &str, needed: u64, length: usize) -> fmt::Result {
+    write!(f, "{what} at byte {needed}, the file at {length}")
+}
+
+fn header_past_end(f: &mut fmt::Formatter<'_>, length: usize) -> fmt::Result {
+    let what = "the header of the collection (ttcf) ends";
+    past_end(f, what, HEADER as u64, length)
+}
+
+fn offsets_past_end(f: &mut fmt::Formatter<'_>, fonts: u32, length: usize) -> fmt::Result {
+    let what = format!("the offsets of the collection's {fonts} fonts end");
+    past_end(f, &what, HEADER as u64 + 4 * u64::from(fonts), length)
+}
+
+fn font_past_end(f: &mut fmt::Formatter<'_>, offset: usize, length: usize) -> fmt::Result {
+    write!(
+        f,
+        "it begins at byte {offset}, and the file ends at {length}"
+    )
+}
+
+fn no_such_font(f: &mut fmt::Formatter<'_>, number: u16, fonts: u32) -> fmt::Result {
+    match fonts {
+        0 => write!(f, "the collection has no font"),
+        1 => write!(f, "the file has one font, and the number is {number}"),
+        _ => write!(
+            f,
+            "the file has {fonts} fonts (0 to {}), and the number is {number}",
+            fonts - 1
+        ),
     }
 }

@@ -6,7 +6,8 @@ use crate::{ids::FaceId, offer::Settings};
 
 /// A font file that is given to [`JobBuilder::face`](crate::JobBuilder::face).
 ///
-/// The bytes alone are enough: `builder.face(&bytes)`.
+/// The bytes alone are enough: `builder.face(&bytes)`. Of a collection, that is
+/// its first font; [`number`](Self::number) says which.
 ///
 /// ```
 /// # mod fonts { include!(concat!(env!("CARGO_MANIFEST_DIR"), "/tests/common/fonts.rs")); }
@@ -21,21 +22,46 @@ use crate::{ids::FaceId, offer::Settings};
 #[derive(Clone, Copy, PartialEq, Eq)]
 pub struct FontFile<'a> {
     pub(crate) bytes: &'a [u8],
+    pub(crate) number: u16,
     pub(crate) name: &'a str,
     pub(crate) held: bool,
     pub(crate) whole: bool,
 }
 
 impl<'a> FontFile<'a> {
-    /// A font file by its bytes: held, and without a name. The job gets just
-    /// what the picker looks at.
+    /// A font file by its bytes: held, without a name, and of a collection the
+    /// font 0. The job gets just what the picker looks at.
     pub const fn new(bytes: &'a [u8]) -> Self {
         Self {
             bytes,
+            number: 0,
             name: "",
             held: true,
             whole: false,
         }
+    }
+
+    /// The font of a collection by its number, below what
+    /// [`face_count`](crate::face_count) gives. A lone font has the number 0.
+    ///
+    /// ```
+    /// # mod fonts { include!(concat!(env!("CARGO_MANIFEST_DIR"), "/tests/common/fonts.rs")); }
+    /// # let collection = fonts::collection(&[400, 700]);
+    /// use stemhook::{FontFile, JobBuilder};
+    ///
+    /// let mut builder = JobBuilder::new();
+    /// let bold = builder.face(FontFile::new(&collection).number(1))?;
+    /// let error = builder.face(FontFile::new(&collection).number(2)).unwrap_err();
+    /// assert_eq!(
+    ///     error.to_string(),
+    ///     "faces[1].number: refused 30: the font number is not below the collection's count: \
+    ///      the file has 2 fonts (0 to 1), and the number is 2"
+    /// );
+    /// # assert_eq!(bold.number(), 0);
+    /// # Ok::<(), stemhook::BuildError>(())
+    /// ```
+    pub const fn number(self, number: u16) -> Self {
+        Self { number, ..self }
     }
 
     /// Gives it a name, a path say, which [`Job::font`](crate::Job::font) gives
@@ -53,7 +79,8 @@ impl<'a> FontFile<'a> {
     }
 
     /// The job gets the whole file, so that charmap offsets count from its
-    /// first byte in the job's bytes too. A job has at most
+    /// first byte in the job's bytes too; a collection goes in once for each of
+    /// its faces, with the font number behind it. A job has at most
     /// [`JOB_BYTES`](crate::limits::JOB_BYTES).
     pub const fn whole(self) -> Self {
         Self {
@@ -86,6 +113,7 @@ impl fmt::Debug for FontFile<'_> {
         f.debug_struct("FontFile")
             .field("name", &self.name)
             .field("length", &self.bytes.len())
+            .field("number", &self.number)
             .field("held", &self.held)
             .field("whole", &self.whole)
             .finish()
@@ -96,10 +124,12 @@ impl fmt::Debug for FontFile<'_> {
 #[derive(Clone, Copy, PartialEq)]
 #[non_exhaustive]
 pub struct Font<'a> {
-    /// The face. Its number is that of the font file among those added.
+    /// The face. Its number is that of the font among those added.
     pub face: FaceId,
-    /// The font file as it stands in the job: what the picker looks at, or the
-    /// [whole file](FontFile::whole) where that was asked for.
+    /// The number of the font in the caller's file: 0 for a lone font.
+    pub number: u16,
+    /// The font file as it stands in the job: what the picker looks at, as a
+    /// lone font, or the [whole file](FontFile::whole) where that was asked for.
     pub file: &'a [u8],
     /// The name that the caller gave the file; empty where none was given.
     pub name: &'a str,
@@ -111,6 +141,7 @@ impl fmt::Debug for Font<'_> {
     fn fmt(&self, f: &mut fmt::Formatter<'_>) -> fmt::Result {
         f.debug_struct("Font")
             .field("face", &self.face)
+            .field("number", &self.number)
             .field("length", &self.file.len())
             .field("name", &self.name)
             .field("settings", &self.settings)

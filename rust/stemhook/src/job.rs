@@ -42,6 +42,8 @@ pub struct Job<'a> {
 pub(crate) struct FaceNote {
     /// The caller's name for the file.
     pub name: String,
+    /// The font's number in the caller's file.
+    pub number: u16,
     /// The way back to the caller's file, where the job has a small one.
     pub subtables: Option<Subtables>,
 }
@@ -97,8 +99,8 @@ impl<'a> Job<'a> {
         Offers::new(self, request)
     }
 
-    /// The font of an offer of this job: which file it is, what the caller
-    /// called it, and what to set its axes to. None for an offer whose family or
+    /// The font of an offer of this job: which file it is, which font of it, what
+    /// the caller called it, and what to set its axes to. None for an offer whose family or
     /// place the job does not have.
     ///
     /// ```
@@ -125,9 +127,11 @@ impl<'a> Job<'a> {
     pub fn font(&self, offer: &Offer) -> Option<Font<'_>> {
         let face = self.face(offer)?;
         let note = self.notes.get(face.index());
+        let (file, number) = self.layout.font(&self.bytes, face)?;
         Some(Font {
             face,
-            file: self.layout.font(&self.bytes, face)?,
+            number: note.map_or(number, |note| note.number),
+            file,
             name: note.map_or("", |note| &note.name),
             settings: offer.settings,
         })

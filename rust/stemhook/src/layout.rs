@@ -2,13 +2,16 @@
 
 use std::ops::Range;
 
-use crate::ids::{FaceId, FamilyId};
+use crate::{
+    ids::{FaceId, FamilyId},
+    tables::is_collection,
+};
 
 /// Where the fonts and families of a job stand, and how many requests it has.
 #[derive(Clone, Debug, Default, PartialEq, Eq)]
 pub struct Layout {
-    /// Where each face's font file lies.
-    fonts: Vec<Range<usize>>,
+    /// Where each face's font file lies, and the font's number in it.
+    fonts: Vec<(Range<usize>, u16)>,
     /// The position of each family's face numbers, and how many there are.
     families: Vec<(usize, u16)>,
     pub requests: u16,
@@ -23,8 +26,15 @@ impl Layout {
             reader.skip(1)?;
             let length = reader.word()?;
             let start = reader.at;
-            reader.skip(usize::try_from(length).ok()?)?;
-            fonts.push(start..reader.at);
+            let file = reader.skip(usize::try_from(length).ok()?)?;
+            let place = start..reader.at;
+            // The number stands behind a collection alone.
+            let number = if is_collection(file) {
+                reader.half()?
+            } else {
+                0
+            };
+            fonts.push((place, number));
         }
         for _ in 0..reader.half()? {
             // Face, mask, ratio, style, weight.
@@ -46,9 +56,10 @@ impl Layout {
         })
     }
 
-    /// The font file of a face.
-    pub fn font<'a>(&self, job: &'a [u8], face: FaceId) -> Option<&'a [u8]> {
-        job.get(self.fonts.get(face.index())?.clone())
+    /// The font file of a face, and the font's number in it.
+    pub fn font<'a>(&self, job: &'a [u8], face: FaceId) -> Option<(&'a [u8], u16)> {
+        let (place, number) = self.fonts.get(face.index())?;
+        Some((job.get(place.clone())?, *number))
     }
 
     /// The face at a place of a family.
@@ -116,13 +127,14 @@ mod tests {
 
     #[test]
     fn fonts_of_faces() {
-        // Faces with the files "ab" and "", and nothing else.
-        let job = *b"\0\x02\x01\0\0\0\x02ab\0\0\0\0\0\0\0\0\0\0\0";
+        // Faces with the files "ab", "ttcf", with the number 7 behind it, and "",
+        // and nothing else.
+        let job = *b"\0\x03\x01\0\0\0\x02ab\x01\0\0\0\x04ttcf\0\x07\0\0\0\0\0\0\0\0\0\0\0";
         let layout = Layout::of(&job).expect("it is whole");
         let font = |face| layout.font(&job, FaceId::new(face));
-        assert_eq!(
-            [font(0), font(1), font(2)],
-            [Some(&b"ab"[..]), Some(b""), None]
-        );
+        let expected = [(&b"ab"[..], 0), (b"ttcf", 7), (b"", 0)];
+        assert_eq!([0, 1, 2].map(font), expected.map(Some));
+        assert_eq!(font(3), None);
+        assert_eq!(Layout::of(&job[..19]), None);
     }
 }

@@ -7,6 +7,8 @@
 //!
 //! - [`JobBuilder`] puts font files, overrides, families and requests into a
 //!   [`Job`], and refuses what would not keep the layout, naming the field.
+//! - [`FontFile::number`] takes a font of a collection (`.ttc`), and
+//!   [`face_count`] says how many a file has.
 //! - [`Job::offers`] goes over the [`Offer`]s for a request, and [`Job::font`]
 //!   gives the way back from an offer to its font.
 //! - [`check`], [`offer`] and [`offer_bytes`] are the picker's calls themselves.
@@ -72,6 +74,7 @@ pub use job::Job;
 pub use offer::{CharmapIndex, Offer, Setting, Settings};
 pub use offers::Offers;
 pub use refusal::{Refusal, Refused};
+pub use tables::face_count;
 pub use tag::{ParseTagError, Tag};
 
 /// The examples of the README, run as tests.

@@ -5,7 +5,8 @@
 //! and the part that is read; and the `cmap` records with other subtable
 //! offsets. A table that is absent for the picker is left out. So width, style,
 //! weight, axes, the kind of charmap and every refusal are those of the whole
-//! file, whatever it holds; the charmap's offset is mapped back.
+//! file, whatever it holds; the charmap's offset is mapped back. Of a font of a
+//! collection it is a lone font's file.
 
 use crate::tables::{Directory, HEADER, RECORD, Table, half, word};
 
@@ -36,11 +37,13 @@ impl Subtables {
 /// No table has a subtable here.
 const NOWHERE: u32 = u32::MAX;
 
-/// Writes the small file. None where the file is too long for 32-bit offsets.
-pub fn looked_at(file: &[u8]) -> Option<LookedAt> {
+/// Writes the small file of a font. None where the file is too long for 32-bit
+/// offsets.
+pub fn looked_at(file: &[u8], number: u16) -> Option<LookedAt> {
     u32::try_from(file.len()).ok()?;
-    let Some(directory) = Directory::of(file) else {
-        // A bad start or a directory past the file: so have these bytes.
+    let Some(directory) = Directory::of(file, number) else {
+        // These bytes are refused as the file is: for their start, for a
+        // directory or offsets past the file, or for the count.
         return Some(LookedAt {
             bytes: file[..file.len().min(HEADER)].to_vec(),
             subtables: Subtables::default(),
@@ -62,7 +65,7 @@ pub fn looked_at(file: &[u8]) -> Option<LookedAt> {
         tables.push((*b"cmap", small));
         whole = offsets;
     }
-    let bytes = font_file(file, &tables);
+    let bytes = font_file(directory.start, &tables);
     // `cmap` stands last.
     let start = tables
         .last()
@@ -101,9 +104,9 @@ fn records(cmap: Table<'_>) -> (Vec<u8>, Vec<u32>) {
     (small, whole)
 }
 
-/// A font file with the start of another, and some tables.
-fn font_file(other: &[u8], tables: &[([u8; 4], Vec<u8>)]) -> Vec<u8> {
-    let mut bytes = other[..4].to_vec();
+/// A font file of some tables.
+fn font_file(start: [u8; 4], tables: &[([u8; 4], Vec<u8>)]) -> Vec<u8> {
+    let mut bytes = start.to_vec();
     // At most five.
     bytes.extend((tables.len() as u16).to_be_bytes());
     bytes.resize(HEADER, 0);

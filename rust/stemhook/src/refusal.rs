@@ -24,7 +24,9 @@ pub enum Refusal {
     CountOverLimit,
     /// 20: a face's held byte is not 0 or 1.
     HeldByte,
-    /// 21: a font has a bad start, or its directory runs past the file.
+    /// 21: a font has a bad start, or its directory runs past the file; of a
+    /// collection also where its header, its offsets or the font's offset run
+    /// past it.
     FontDirectory,
     /// 22: a font has no `cmap` record that qualifies.
     NoCharmap,
@@ -43,6 +45,8 @@ pub enum Refusal {
     /// 29: synthesis would give a fourth setting. No job leads to it: that is
     /// proved.
     FourthSetting,
+    /// 30: the font number is not below the collection's count.
+    NoSuchFont,
     /// A number that is not in this version's table: the static library is of
     /// another version.
     Unknown(u32),
@@ -50,7 +54,7 @@ pub enum Refusal {
 
 impl Refusal {
     /// The refusals of the table, in its order.
-    pub const TABLE: [Self; 14] = [
+    pub const TABLE: [Self; 15] = [
         Self::OutputLength,
         Self::JobLength,
         Self::PastEnd,
@@ -65,6 +69,7 @@ impl Refusal {
         Self::BytesLeft,
         Self::NoSuchRequest,
         Self::FourthSetting,
+        Self::NoSuchFont,
     ];
 
     /// The refusal's number in the table.
@@ -84,6 +89,7 @@ impl Refusal {
             Self::BytesLeft => 27,
             Self::NoSuchRequest => 28,
             Self::FourthSetting => 29,
+            Self::NoSuchFont => 30,
             Self::Unknown(number) => number,
         }
     }
@@ -113,6 +119,7 @@ impl Refusal {
             Self::BytesLeft => "bytes are left after the job's end",
             Self::NoSuchRequest => "the request is not in the job",
             Self::FourthSetting => "synthesis would give a fourth setting",
+            Self::NoSuchFont => "the font number is not below the collection's count",
             Self::Unknown(_) => "not in the table of this version",
         }
     }
@@ -189,7 +196,8 @@ impl Refused {
     /// 16, 17, 28 and 29, which are not for a field.
     ///
     /// A font's position is that of its length field; that of
-    /// [`Refusal::BytesLeft`] is the first byte left.
+    /// [`Refusal::NoSuchFont`] is the font number, and that of
+    /// [`Refusal::BytesLeft`] the first byte left.
     pub fn position(&self) -> Option<u32> {
         self.position
     }

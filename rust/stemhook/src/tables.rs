@@ -1,8 +1,11 @@
-//! A font file's directory and tables, found as the picker finds them.
+//! The fonts of a file, their directories and tables, found as the picker finds
+//! them.
 
-/// The directory of a font file that has a good start and the whole directory.
+/// The directory of a font that has a good start and the whole directory.
 pub struct Directory<'a> {
     file: &'a [u8],
+    /// What the font starts with.
+    pub start: [u8; 4],
     records: &'a [u8],
 }
 
@@ -22,22 +25,76 @@ pub struct Record {
     pub length: usize,
 }
 
-/// Bytes before the records.
+/// Bytes before the records, and before the offsets of a collection.
 pub const HEADER: usize = 12;
 
 /// Bytes of a record: tag, checksum, offset, length.
 pub const RECORD: usize = 16;
 
-/// What a font file starts with.
+/// What a font starts with.
 pub const STARTS: [[u8; 4]; 3] = [[0, 1, 0, 0], *b"OTTO", *b"true"];
 
+/// What a collection starts with.
+pub const COLLECTION: [u8; 4] = *b"ttcf";
+
+/// Whether a file is a collection of fonts.
+pub fn is_collection(file: &[u8]) -> bool {
+    file.starts_with(&COLLECTION)
+}
+
+/// How many fonts a file has: what a collection (`ttcf`) states, 0 for one
+/// without its 12 header bytes, and 1 for every other file. Whether they can be
+/// used is not looked at.
+///
+/// ```
+/// # mod fonts { include!(concat!(env!("CARGO_MANIFEST_DIR"), "/tests/common/fonts.rs")); }
+/// # let collection = fonts::collection(&[400, 700]);
+/// use stemhook::{FontFile, JobBuilder, face_count};
+///
+/// let mut builder = JobBuilder::new();
+/// let mut faces = Vec::new();
+/// for number in 0..u16::try_from(face_count(&collection))? {
+///     faces.push(builder.face(FontFile::new(&collection).number(number))?);
+/// }
+/// assert_eq!(faces.len(), 2);
+/// # Ok::<(), Box<dyn std::error::Error>>(())
+/// ```
+pub fn face_count(file: &[u8]) -> u32 {
+    if is_collection(file) {
+        word(file, 8).unwrap_or(0)
+    } else {
+        1
+    }
+}
+
+/// Where the directory of a font begins. None where the file has no font of the
+/// number, or a collection not all of its offsets.
+pub fn directory_at(file: &[u8], number: u16) -> Option<usize> {
+    if u32::from(number) >= face_count(file) {
+        return None;
+    }
+    if !is_collection(file) {
+        return Some(0);
+    }
+    let offsets = &file[HEADER..];
+    let found = offsets.chunks_exact(4).len() >= face_count(file) as usize;
+    let offset = word(offsets, 4 * usize::from(number))?;
+    found.then_some(offset as usize)
+}
+
 impl<'a> Directory<'a> {
-    /// The directory, or none for a bad start or a directory past the file.
-    pub fn of(file: &'a [u8]) -> Option<Self> {
-        let start = file.first_chunk()?;
-        let length = RECORD * usize::from(half(file, 4)?);
-        let records = file.get(HEADER..)?.get(..length)?;
-        STARTS.contains(start).then_some(Self { file, records })
+    /// The directory of the font of a number. None where there is no such font,
+    /// for a bad start, or for a directory past the file.
+    pub fn of(file: &'a [u8], number: u16) -> Option<Self> {
+        let font = file.get(directory_at(file, number)?..)?;
+        let start = *font.first_chunk()?;
+        let length = RECORD * usize::from(half(font, 4)?);
+        let records = font.get(HEADER..)?.get(..length)?;
+        STARTS.contains(&start).then_some(Self {
+            file,
+            start,
+            records,
+        })
     }
 
     /// The first record with a tag.

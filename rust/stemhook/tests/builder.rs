@@ -138,6 +138,39 @@ fn a_job_up_to_its_most_bytes() {
 }
 
 #[test]
+fn a_whole_collection_has_its_number_behind_it() {
+    let file = fonts::collection(&[400, 700]);
+    let mut builder = JobBuilder::new();
+    builder
+        .face(FontFile::new(&file).whole().number(1))
+        .unwrap();
+    let mut expected = vec![0, 1, 1];
+    expected.extend((file.len() as u32).to_be_bytes());
+    expected.extend(&file);
+    expected.extend([0, 1, 0, 0, 0, 0, 0, 0]);
+    assert_eq!(builder.build().unwrap().as_bytes(), expected);
+    // What is looked at of it is a lone font, which has none.
+    let mut small = JobBuilder::new();
+    small.face(FontFile::new(&file).number(1)).unwrap();
+    let length = small.build().unwrap().as_bytes().len();
+    assert_eq!(length, 8 + 5 + 12 + 2 * 16 + 78 + 12);
+}
+
+#[test]
+fn a_collection_up_to_the_most_bytes_of_a_job() {
+    let mut file = fonts::collection(&[400, 700]);
+    // Four counts, a held byte, a length and a number stand beside the file.
+    file.resize(limits::JOB_BYTES - 8 - 7 + 1, 0);
+    let mut builder = JobBuilder::new();
+    let text = "faces[0].font: the job would be over 16777216 bytes long";
+    let whole = |b: &mut JobBuilder, file: &[u8]| b.face(FontFile::new(file).whole());
+    refused(&mut builder, |b| whole(b, &file), text);
+    file.pop();
+    assert_eq!(whole(&mut builder, &file), Ok(FIRST));
+    assert_eq!(builder.build().unwrap().as_bytes().len(), limits::JOB_BYTES);
+}
+
+#[test]
 fn overrides_up_to_256() {
     let mut builder = one_face();
     let given = Override::default();
@@ -540,8 +573,10 @@ fn add_any(
         0 => {
             let axes = [(*b"wght", 100, 400, 900), (*b"slnt", -10, 0, 0)];
             let fonts = [400, 700].map(fonts::weight);
-            let fonts = [&fonts[..], &[fonts::variable(&axes)]].concat();
-            builder.face(&fonts[random.below(3)])?;
+            let more = [fonts::variable(&axes), fonts::collection(&[400, 700])];
+            let fonts = [&fonts[..], &more].concat();
+            let font = FontFile::new(&fonts[random.below(4)]).number(random.of(&[0, 0, 1, 2]));
+            builder.face(if random.chance(2) { font.whole() } else { font })?;
         }
         1 => {
             let given = any_override(random);

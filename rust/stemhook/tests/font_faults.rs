@@ -39,7 +39,6 @@ fn starts() -> Vec<Case> {
         (b"OTT".to_vec(), FontFault::Short, "fewer than four"),
         (b"wOFF....".to_vec(), FontFault::Woff, "a WOFF file"),
         (b"wOF2....".to_vec(), FontFault::Woff2, "a WOFF2 file"),
-        (b"ttcf....".to_vec(), FontFault::Collection, "ttcf"),
         (b"%!PS-Adobe".to_vec(), FontFault::Type1, "Type 1"),
         (b"\x80\x01..".to_vec(), FontFault::Type1, "Type 1"),
         (b"typ1....".to_vec(), FontFault::WrappedType1, "Type 1"),
@@ -65,8 +64,74 @@ fn tables() -> Vec<Case> {
     ]
 }
 
+/// A collection of two fonts with another 32-bit number at a position.
+fn collection_with(at: usize, number: u32) -> Vec<u8> {
+    let mut file = fonts::collection(&[400, 700]);
+    file[at..at + 4].copy_from_slice(&number.to_be_bytes());
+    file
+}
+
+/// Collections whose header or offsets are cut, or that have no font.
+fn headers() -> Vec<Case> {
+    let file = fonts::collection(&[400, 700]);
+    let short = FontFault::CollectionShort { length: 8 };
+    let none = FontFault::NoSuchFont {
+        number: 0,
+        fonts: 0,
+    };
+    let offsets = |fonts, length| FontFault::OffsetsPastEnd { fonts, length };
+    let many = collection_with(8, u32::MAX);
+    vec![
+        (
+            file[..8].to_vec(),
+            short,
+            "(ttcf) ends at byte 12, the file at 8",
+        ),
+        (collection_with(8, 0), none, "has no font"),
+        (
+            file[..19].to_vec(),
+            offsets(2, 19),
+            "end at byte 20, the file at 19",
+        ),
+        (
+            many,
+            offsets(u32::MAX, file.len()),
+            "end at byte 17179869192, ",
+        ),
+    ]
+}
+
+/// Collections whose first font cannot be found.
+fn offsets() -> Vec<Case> {
+    let length = fonts::collection(&[400, 700]).len();
+    let past = |offset| FontFault::FontPastEnd { offset, length };
+    let cut = fonts::collection(&[400]);
+    let cut = &cut[..cut.len() - 1];
+    let directory = FontFault::DirectoryPastEnd {
+        needed: cut.len() + 1,
+        length: cut.len(),
+    };
+    let at = |offset| collection_with(12, offset);
+    let start = FontFault::Start([0, 0, 0, 12]);
+    vec![
+        (at(9000), past(9000), "it begins at byte 9000, "),
+        (
+            at(length as u32 - 3),
+            past(length - 3),
+            "and the file ends at ",
+        ),
+        (
+            at(0),
+            FontFault::NestedCollection,
+            "to a collection (ttcf), not to a font",
+        ),
+        (at(12), start, "starts with \"\\x00\\x00\\x00\\x0c\""),
+        (cut.to_vec(), directory, "its table directory ends at byte"),
+    ]
+}
+
 fn cases() -> Vec<Case> {
-    [starts(), tables()].concat()
+    [starts(), tables(), headers(), offsets()].concat()
 }
 
 #[test]
@@ -89,9 +154,13 @@ fn each_fault_is_told_in_words() {
             };
             assert_eq!(told, fault);
             assert_eq!(error.face(), Some(FaceId::new(1)));
-            assert_eq!(error.field(), "faces[1].font");
+            let part = match refusal {
+                Refusal::NoSuchFont => "number",
+                _ => "font",
+            };
+            assert_eq!(error.field(), format!("faces[1].{part}"));
             let text = error.to_string();
-            let start = format!("faces[1].font: refused {}: ", refusal.number());
+            let start = format!("faces[1].{part}: refused {}: ", refusal.number());
             assert!(text.starts_with(&start), "{text}");
             assert!(
                 text.contains(refusal.meaning()) && text.contains(words),
@@ -113,6 +182,7 @@ fn the_numbers_are_the_picker_s() {
             FontFault::Axes { .. } => Refusal::TooManyAxes,
             FontFault::NoCmap | FontFault::CmapPastEnd => Refusal::NoCharmap,
             FontFault::CmapShort | FontFault::CmapRecords { .. } => Refusal::NoCharmap,
+            FontFault::NoSuchFont { .. } => Refusal::NoSuchFont,
             _ => Refusal::FontDirectory,
         };
         let problem = Problem::Font {
@@ -120,5 +190,41 @@ fn the_numbers_are_the_picker_s() {
             fault,
         };
         assert_eq!(error.problem(), problem);
+    }
+}
+
+#[test]
+fn a_number_that_the_file_does_not_have() {
+    let collection = fonts::collection(&[400, 700]);
+    let lone = fonts::weight(400);
+    let bad = b"wOFF and the rest".to_vec();
+    let one = "the file has one font, and the number is ";
+    for (file, number, fonts, words) in [
+        (
+            &collection,
+            2,
+            2,
+            "the file has 2 fonts (0 to 1), and the number is 2",
+        ),
+        (&lone, 1, 1, &*format!("{one}1")),
+        (&lone, u16::MAX, 1, &format!("{one}65535")),
+        // The number comes before the start.
+        (&bad, 1, 1, &format!("{one}1")),
+    ] {
+        for font in [FontFile::new(file), FontFile::new(file).whole()] {
+            let error = JobBuilder::new().face(font.number(number)).unwrap_err();
+            let fault = FontFault::NoSuchFont { number, fonts };
+            let refusal = Refusal::NoSuchFont;
+            assert_eq!(error.problem(), Problem::Font { refusal, fault });
+            let text = format!("faces[0].number: refused 30: {refusal}: {words}");
+            assert_eq!(error.to_string(), text);
+        }
+    }
+    // A file without 12 bytes is refused for that, whatever the number.
+    for short in [&b""[..], b"OTTO", b"ttcf....", &lone[..11]] {
+        let error = JobBuilder::new()
+            .face(FontFile::new(short).number(9))
+            .unwrap_err();
+        assert!(error.to_string().contains("refused 21"), "{error}");
     }
 }

@@ -6,10 +6,13 @@ mod common;
 use std::{env, fs, path::Path};
 
 use common::fonts;
-use jobs::{fonts::random_font, random::Random};
+use jobs::{
+    fonts::{random_file, random_font},
+    random::Random,
+};
 use stemhook::{
     Angle, Attributes, BuildError, FontFault, FontFile, Job, JobBuilder, Offer, Problem, Request,
-    Style, check, limits,
+    Style, check, face_count, limits,
 };
 
 /// Widths, styles and weights that part most fonts.
@@ -56,18 +59,22 @@ fn offers(job: &Job<'_>) -> Vec<Offer> {
     all.collect::<Result<_, _>>().expect("the job is accepted")
 }
 
-/// The second font of a job, as it stands there.
+/// The second font file of a job, as it stands there.
 fn second_font(job: &[u8]) -> &[u8] {
     let word = |at: usize| u32::from_be_bytes(job[at..at + 4].try_into().unwrap()) as usize;
     let second = 2 + 5 + word(3);
     &job[second + 5..][..word(second + 1)]
 }
 
-/// What the picker says of a job of the whole file.
-fn refusal_of_whole(file: &[u8]) -> u32 {
+/// What the picker says of a job of the whole file. It has no number behind a
+/// lone font.
+fn refusal_of_whole(file: &[u8], number: u16) -> u32 {
     let mut job = vec![0, 1, 1];
     job.extend((file.len() as u32).to_be_bytes());
     job.extend_from_slice(file);
+    if file.starts_with(b"ttcf") {
+        job.extend(number.to_be_bytes());
+    }
     job.extend([0; 6]);
     check(&job).map_or_else(|refused| refused.number(), |()| 0)
 }
@@ -76,31 +83,43 @@ fn refusal_of_whole(file: &[u8]) -> u32 {
 #[derive(Debug, Default)]
 struct Counts {
     read: u64,
-    refused: [u64; 3],
+    /// By refusal: 21, 22, 23 and 30.
+    refused: [u64; 4],
+    /// Fonts of collections that were read.
+    collected: u64,
     offers: u64,
     /// The longest small file.
     longest: usize,
 }
 
-/// The refusal, or the offers, beside those of the whole file.
-fn compare(file: &[u8], name: &str, r: &mut Random, counts: &mut Counts) {
-    let requests = requests(r);
-    let small = job(FontFile::new(file), &requests);
-    if let Err(error) = small {
-        let Problem::Font { refusal, fault } = error.problem() else {
-            panic!("{name}: {error}");
-        };
-        assert_eq!(plain::font::read(file), Err(refusal.number()), "{name}");
-        assert_ne!(fault, FontFault::Other, "{name}");
-        if file.len() + 13 <= limits::JOB_BYTES {
-            assert_eq!(refusal_of_whole(file), refusal.number(), "{name}");
-        }
-        counts.refused[refusal.number() as usize - 21] += 1;
-        return;
+/// A refusal of a font is the plain reading's and that of the whole file.
+fn compare_refusal(font: (&[u8], u16), error: &BuildError, name: &str, counts: &mut Counts) {
+    let (file, number) = font;
+    let Problem::Font { refusal, fault } = error.problem() else {
+        panic!("{name}: {error}");
+    };
+    let refused = refusal.number();
+    assert_eq!(plain::font::read(file, number), Err(refused), "{name}");
+    assert_ne!(fault, FontFault::Other, "{name}");
+    let in_job = number == 0 || file.starts_with(b"ttcf");
+    if in_job && file.len() + 15 <= limits::JOB_BYTES {
+        assert_eq!(refusal_of_whole(file, number), refused, "{name}");
     }
-    let small = small.expect("it was told");
-    let mut read = plain::font::read(second_font(small.as_bytes())).expect("the picker took it");
-    let whole_read = plain::font::read(file).expect("the picker took it");
+    let at = [21, 22, 23, 30].iter().position(|known| *known == refused);
+    counts.refused[at.expect(name)] += 1;
+}
+
+/// The refusal, or the offers, of a font beside those of the whole file.
+fn compare(file: &[u8], number: u16, name: &str, r: &mut Random, counts: &mut Counts) {
+    let requests = requests(r);
+    let font = FontFile::new(file).number(number);
+    let small = match job(font, &requests) {
+        Ok(small) => small,
+        Err(error) => return compare_refusal((file, number), &error, name, counts),
+    };
+    let read = plain::font::read(second_font(small.as_bytes()), 0);
+    let mut read = read.expect("the picker took it");
+    let whole_read = plain::font::read(file, number).expect("the picker took it");
     let offers_of_small = offers(&small);
     read.charmap.offset = whole_read.charmap.offset;
     assert_eq!(read, whole_read, "{name}");
@@ -108,13 +127,14 @@ fn compare(file: &[u8], name: &str, r: &mut Random, counts: &mut Counts) {
         let offset = offer.charmap.offset;
         assert_eq!(offset, whole_read.charmap.offset, "{name}");
     }
-    if let Ok(whole) = job(FontFile::new(file).whole(), &requests) {
+    if let Ok(whole) = job(font.whole(), &requests) {
         assert_eq!(second_font(whole.as_bytes()), file, "{name}");
         assert_eq!(offers_of_small, offers(&whole), "{name}");
     } else {
         assert!(file.len() + 1000 > limits::JOB_BYTES, "{name}");
     }
     counts.read += 1;
+    counts.collected += u64::from(file.starts_with(b"ttcf"));
     counts.offers += offers_of_small.len() as u64;
     let length = second_font(small.as_bytes()).len();
     counts.longest = counts.longest.max(length);
@@ -124,15 +144,44 @@ fn compare(file: &[u8], name: &str, r: &mut Random, counts: &mut Counts) {
 fn generated_and_damaged_fonts() {
     let mut r = Random::new(11);
     let mut counts = Counts::default();
-    for number in 0..40_000 {
-        let file = random_font(&mut r);
-        compare(&file, &format!("font {number}"), &mut r, &mut counts);
+    for at in 0..40_000 {
+        let (file, number) = random_file(&mut r);
+        compare(&file, number, &format!("font {at}"), &mut r, &mut counts);
     }
     assert!(
         counts.read > 10_000 && counts.offers > 100_000,
         "{counts:?}"
     );
+    assert!(counts.collected > 2000, "{counts:?}");
     assert!(counts.refused.iter().all(|count| *count > 50), "{counts:?}");
+}
+
+/// Beside the same font as a file of its own, a font of a collection has other
+/// charmap offsets and no other difference.
+#[test]
+fn a_collected_font_beside_a_lone_one() {
+    let mut r = Random::new(16);
+    let mut compared = 0;
+    for at in 0..4000 {
+        let lone = random_font(&mut r);
+        let requests = requests(&mut r);
+        let Ok(alone) = job(FontFile::new(&lone), &requests) else {
+            continue;
+        };
+        let length = lone.len();
+        let file = fonts::collected(&[fonts::weight(400), lone]);
+        let start = file.len() - length;
+        let collected = job(FontFile::new(&file).number(1), &requests);
+        let collected = collected.expect("the same tables");
+        for (one, mut other) in offers(&alone).into_iter().zip(offers(&collected)) {
+            if collected.font(&other).unwrap().number == 1 {
+                other.charmap.offset -= start as u32;
+            }
+            assert_eq!(one, other, "font {at}");
+            compared += 1;
+        }
+    }
+    assert!(compared > 10_000, "only {compared}");
 }
 
 #[test]
@@ -140,10 +189,10 @@ fn stored_fonts() {
     let list = common::read("crates/font_cases/stdin");
     let mut r = Random::new(12);
     let mut counts = Counts::default();
-    for (number, file) in common::jobs(&list).into_iter().enumerate() {
-        compare(file, &format!("font {number}"), &mut r, &mut counts);
+    for (at, (file, number)) in common::numbered_fonts(&list).into_iter().enumerate() {
+        compare(file, number, &format!("font {at}"), &mut r, &mut counts);
     }
-    assert!(counts.read > 100, "{counts:?}");
+    assert!(counts.read > 100 && counts.collected > 10, "{counts:?}");
     assert!(counts.refused.iter().all(|count| *count > 1), "{counts:?}");
 }
 
@@ -175,7 +224,10 @@ fn real_fonts() {
     let mut counts = Counts::default();
     for path in found {
         let Ok(file) = fs::read(&path) else { continue };
-        compare(&file, &path.display().to_string(), &mut r, &mut counts);
+        let name = path.display().to_string();
+        for number in 0..u16::try_from(face_count(&file)).expect(&name) {
+            compare(&file, number, &name, &mut r, &mut counts);
+        }
     }
     println!("{counts:?}");
     assert!(counts.read > 0, "{counts:?}");
@@ -187,6 +239,6 @@ fn a_file_over_the_limit_of_a_job() {
     file.resize(limits::JOB_BYTES + 1000, 0);
     let mut r = Random::new(14);
     let mut counts = Counts::default();
-    compare(&file, "a long file", &mut r, &mut counts);
+    compare(&file, 0, "a long file", &mut r, &mut counts);
     assert_eq!(counts.read, 1);
 }

@@ -8,10 +8,14 @@ mod common;
 
 use std::{
     env, fs,
+    ops::Range,
     path::{Path, PathBuf},
 };
 
-use stemhook::{Angle, Attributes, FaceId, Job, JobBuilder, Offer, Request, RequestId, Style, Tag};
+use stemhook::{
+    Angle, Attributes, FaceId, FontFile, Job, JobBuilder, Offer, Request, RequestId, Style, Tag,
+    face_count,
+};
 
 const DEJAVU: &str = "truetype/dejavu";
 const CANTARELL: &str = "opentype/cantarell";
@@ -48,12 +52,21 @@ const ROMAN_AND_ITALIC: [&str; 2] = [
     "truetype/inter-vf/Inter-italic.var.ttf",
 ];
 
+/// WenQuanYi Micro Hei: a collection of two fonts that share most tables.
+const COLLECTION: [&str; 1] = ["truetype/wqy/wqy-microhei.ttc"];
+
 /// The folder of fonts, if every file that is used here is in it; else the
 /// test is skipped.
 fn folder(test: &str) -> Option<PathBuf> {
     let folder = env::var_os("STEMHOOK_FONTS").unwrap_or_else(|| "/usr/share/fonts".into());
     let folder = PathBuf::from(folder);
-    let used = [&SANS[..], &LIGHT_TO_BOLD, &SLANTING, &ROMAN_AND_ITALIC];
+    let used = [
+        &SANS[..],
+        &LIGHT_TO_BOLD,
+        &SLANTING,
+        &ROMAN_AND_ITALIC,
+        &COLLECTION,
+    ];
     let missing = used
         .concat()
         .into_iter()
@@ -283,4 +296,81 @@ fn every_file_of_the_packages_is_read_and_offered() {
         }
     }
     assert!(count >= 17, "only {count} files");
+}
+
+fn word(file: &[u8], at: usize) -> usize {
+    u32::from_be_bytes(file[at..at + 4].try_into().unwrap()) as usize
+}
+
+/// The tables of a directory, each with where it lies in the file.
+fn tables(file: &[u8], directory: usize) -> Vec<([u8; 4], Range<usize>)> {
+    let count = u16::from_be_bytes([file[directory + 4], file[directory + 5]]);
+    let table = |record: usize| {
+        let at = directory + 12 + 16 * record;
+        let start = word(file, at + 8);
+        let tag = file[at..at + 4].try_into().unwrap();
+        (tag, start..start + word(file, at + 12))
+    };
+    (0..count.into()).map(table).collect()
+}
+
+/// A font of a collection as a file of its own, and how much farther its `cmap`
+/// lies in the collection.
+fn taken_out(file: &[u8], number: u16) -> (Vec<u8>, i64) {
+    let cmap = |tables: &[([u8; 4], Range<usize>)]| {
+        let found = tables.iter().find(|(tag, _)| tag == b"cmap");
+        found.unwrap().1.start as i64
+    };
+    let own = tables(file, word(file, 12 + 4 * usize::from(number)));
+    let copies = own.iter().cloned();
+    let copies: Vec<_> = copies.map(|(tag, at)| (tag, file[at].to_vec())).collect();
+    let alone = common::fonts::file([0, 1, 0, 0], &copies);
+    let farther = cmap(&own) - cmap(&tables(&alone, 0));
+    (alone, farther)
+}
+
+/// The offers of fonts for several requests.
+fn offers_of(fonts: &[FontFile<'_>]) -> Vec<Offer> {
+    let mut builder = JobBuilder::new();
+    let faces: Vec<FaceId> = fonts
+        .iter()
+        .map(|font| builder.face(*font).unwrap())
+        .collect();
+    let families = vec![builder.family(&faces).unwrap()];
+    for (width, style, weight) in [
+        (1.0, Style::Normal, 400.0),
+        (0.75, Style::Italic, 700.0),
+        (1.0, Style::Oblique(Angle::Degrees(-9.0)), 250.0),
+    ] {
+        let request = Request {
+            attributes: attributes(width, style, weight),
+            families: families.clone(),
+            ..Request::default()
+        };
+        builder.request(&request).unwrap();
+    }
+    let job = builder.build().unwrap();
+    let offers = job.requests().flat_map(|id| job.offers(id).unwrap());
+    offers.collect::<Result<_, _>>().unwrap()
+}
+
+#[test]
+fn fonts_of_a_collection_are_offered_as_they_are_alone() {
+    let Some(folder) = folder("fonts_of_a_collection_are_offered_as_they_are_alone") else {
+        return;
+    };
+    let file = font(&folder, COLLECTION[0]);
+    assert_eq!(face_count(&file), 2);
+    let collected = [0, 1].map(|number| FontFile::new(&file).number(number));
+    let offers = offers_of(&collected);
+    assert!(offers.iter().any(|o| o.place == 0) && offers.iter().any(|o| o.place == 1));
+    assert_eq!(offers, offers_of(&collected.map(FontFile::whole)));
+
+    let alone = [0, 1].map(|number| taken_out(&file, number));
+    let mut moved = offers_of(&alone.each_ref().map(|(font, _)| FontFile::new(font)));
+    for offer in &mut moved {
+        let (_, farther) = alone[usize::from(offer.place)];
+        offer.charmap.offset = (i64::from(offer.charmap.offset) + farther) as u32;
+    }
+    assert_eq!(offers, moved);
 }

@@ -112,7 +112,7 @@ fn a_held_byte_of_2_is_20() {
 #[test]
 fn fonts_are_refused_at_their_length_field() {
     let after = [0; 6];
-    let bad_start = fonts::file(*b"ttcf", &[(*b"cmap", fonts::cmap(3, 1))]);
+    let bad_start = fonts::file(*b"wOFF", &[(*b"cmap", fonts::cmap(3, 1))]);
     refused(
         &with_font(&bad_start, &after),
         Refusal::FontDirectory,
@@ -132,6 +132,101 @@ fn fonts_are_refused_at_their_length_field() {
     );
     let axes = fonts::variable(&[axis; 17]);
     refused(&with_font(&axes, &after), Refusal::TooManyAxes, Some(3));
+}
+
+/// A job with one face of a collection, a font number, and nothing else.
+fn with_collection(file: &[u8], number: u16) -> Vec<u8> {
+    let mut after = number.to_be_bytes().to_vec();
+    after.extend([0; 6]);
+    with_font(file, &after)
+}
+
+/// A collection of two fonts with another 32-bit number at a position.
+fn changed(at: usize, number: u32) -> Vec<u8> {
+    let mut file = fonts::collection(&[400, 700]);
+    file[at..at + 4].copy_from_slice(&number.to_be_bytes());
+    file
+}
+
+#[test]
+fn a_font_number_past_the_count_is_30() {
+    let file = fonts::collection(&[400, 700]);
+    assert_eq!(check(&with_collection(&file, 0)), Ok(()));
+    assert_eq!(check(&with_collection(&file, 1)), Ok(()));
+    for number in [2, 3, 0x100, u16::MAX] {
+        let job = with_collection(&file, number);
+        refused(&job, Refusal::NoSuchFont, Some(7 + file.len()));
+    }
+    // Before anything else of the fonts is looked at, and for each number where
+    // there is none.
+    let header = &file[..12];
+    refused(&with_collection(header, 2), Refusal::NoSuchFont, Some(19));
+    let none = changed(8, 0);
+    let number = 7 + none.len();
+    refused(
+        &with_collection(&none, 0),
+        Refusal::NoSuchFont,
+        Some(number),
+    );
+}
+
+#[test]
+fn collections_are_refused_at_their_length_field() {
+    let file = fonts::collection(&[400, 700]);
+    for length in 4..12 {
+        // No number is looked for.
+        let job = with_font(&file[..length], &[]);
+        refused(&job, Refusal::FontDirectory, Some(3));
+    }
+    for length in 12..20 {
+        let job = with_collection(&file[..length], 0);
+        refused(&job, Refusal::FontDirectory, Some(3));
+    }
+    let past = file.len() as u32;
+    // More fonts than offsets, one that leads past the file, to its last byte, to
+    // the collection itself, and to no font.
+    for damaged in [
+        changed(8, u32::MAX),
+        changed(8, 1 << 30),
+        changed(12, past),
+        changed(12, past - 11),
+        changed(12, u32::MAX),
+        changed(12, 0),
+        changed(12, 20),
+    ] {
+        let job = with_collection(&damaged, 0);
+        refused(&job, Refusal::FontDirectory, Some(3));
+    }
+    // The other font is not looked at.
+    assert_eq!(check(&with_collection(&changed(12, past), 1)), Ok(()));
+}
+
+#[test]
+fn a_cut_font_number_is_18() {
+    let file = fonts::collection(&[400, 700]);
+    for after in [&[][..], &[0]] {
+        let job = with_font(&file, after);
+        refused(&job, Refusal::PastEnd, Some(7 + file.len()));
+    }
+    // Its lack comes before what the number is needed for.
+    refused(&with_font(&file[..12], &[]), Refusal::PastEnd, Some(19));
+}
+
+#[test]
+fn a_font_of_a_collection_can_lack_a_charmap_or_have_17_axes() {
+    let axes = fonts::fvar(&[(*b"wght", 100, 400, 900); 17]);
+    for (tables, refusal) in [
+        (vec![(*b"OS/2", fonts::os2(400, 5, 0))], Refusal::NoCharmap),
+        (
+            vec![(*b"cmap", fonts::cmap(3, 1)), (*b"fvar", axes)],
+            Refusal::TooManyAxes,
+        ),
+    ] {
+        let font = fonts::file([0, 1, 0, 0], &tables);
+        let file = fonts::collected(&[fonts::weight(400), font]);
+        assert_eq!(check(&with_collection(&file, 0)), Ok(()));
+        refused(&with_collection(&file, 1), refusal, Some(3));
+    }
 }
 
 #[test]
@@ -232,12 +327,12 @@ fn numbers_and_refusals_go_together() {
         .iter()
         .map(|refusal| refusal.number())
         .collect();
-    assert_eq!(numbers, (16..=29).collect::<Vec<u32>>());
+    assert_eq!(numbers, (16..=30).collect::<Vec<u32>>());
     for refusal in Refusal::TABLE {
         assert_eq!(Refusal::from_number(refusal.number()), refusal);
         assert!(!refusal.meaning().is_empty());
     }
-    for number in [0, 1, 15, 30, 255, u32::MAX] {
+    for number in [0, 1, 15, 31, 255, u32::MAX] {
         assert_eq!(Refusal::from_number(number), Refusal::Unknown(number));
         assert_eq!(Refusal::Unknown(number).number(), number);
     }

@@ -6,7 +6,8 @@ use std::error::Error as _;
 
 use common::fonts;
 use stemhook::{
-    Attributes, FaceId, FontFile, JobBuilder, Offer, ParseTagError, Request, RequestId, Tag,
+    Attributes, FaceId, FontFile, Job, JobBuilder, Offer, ParseTagError, Request, RequestId, Tag,
+    face_count,
 };
 
 #[test]
@@ -41,7 +42,7 @@ fn a_builder_prints_counts_and_not_its_bytes() {
     let text = "JobBuilder { faces: 1, overrides: 0, families: 1, requests: 0, length: 1000019 }";
     assert_eq!(format!("{builder:?}"), text);
     let file = FontFile::new(&font).named("A.ttf");
-    let text = "FontFile { name: \"A.ttf\", length: 1000000, held: true, whole: false }";
+    let text = "FontFile { name: \"A.ttf\", length: 1000000, number: 0, held: true, whole: false }";
     assert_eq!(format!("{file:?}"), text);
 }
 
@@ -80,7 +81,7 @@ fn the_way_back_from_an_offer_to_its_font() {
 
     // The file is small, and whole where that was asked for.
     assert!(fonts[0].file.starts_with(&[0, 1, 0, 0]));
-    let text = "Font { face: FaceId(0), length: ";
+    let text = "Font { face: FaceId(0), number: 0, length: ";
     assert!(format!("{:?}", fonts[0]).starts_with(text));
 
     // Of another job's offer the family or the place may not be there.
@@ -131,4 +132,83 @@ fn a_whole_file_is_given_back() {
     };
     assert_eq!(font(0).file, file);
     assert!(font(1).file.len() < 200);
+}
+
+#[test]
+fn the_fonts_of_a_file_are_counted() {
+    let file = fonts::collection(&[400, 700, 900]);
+    assert_eq!(face_count(&file), 3);
+    for length in 4..12 {
+        assert_eq!(face_count(&file[..length]), 0, "{length}");
+    }
+    assert_eq!(face_count(&file[..12]), 3);
+    for lone in [&b""[..], b"ttc", b"OTTO", &fonts::weight(400)] {
+        assert_eq!(face_count(lone), 1);
+    }
+    assert_eq!(face_count(b"ttcf\0\x01\0\0\xff\xff\xff\xff"), u32::MAX);
+}
+
+/// A job of the fonts 1 and 0 of a collection, the second whole or not, and
+/// its request.
+fn job_of_collection(file: &[u8], whole: bool) -> (Job<'static>, RequestId) {
+    let mut builder = JobBuilder::new();
+    let font = FontFile::new(file);
+    let first = if whole { font.whole() } else { font };
+    let faces = [
+        builder.face(font.number(1).named("B")).unwrap(),
+        builder.face(first.named("A")).unwrap(),
+    ];
+    let families = vec![builder.family(&faces).unwrap()];
+    let request = builder.request(&Request {
+        attributes: Attributes {
+            weight: 700.0,
+            ..Attributes::default()
+        },
+        families,
+        ..Request::default()
+    });
+    (builder.build().unwrap(), request.unwrap())
+}
+
+#[test]
+fn the_way_back_to_a_font_of_a_collection() {
+    let file = fonts::collection(&[400, 700]);
+    for whole in [false, true] {
+        let (job, request) = job_of_collection(&file, whole);
+        let offers: Vec<Offer> = job.offers(request).unwrap().map(Result::unwrap).collect();
+        let fonts = offers.iter().map(|offer| job.font(offer).unwrap());
+        let named: Vec<_> = fonts.map(|font| (font.name, font.number)).collect();
+        assert_eq!(named, [("B", 1), ("A", 0)]);
+        assert_eq!(job.font(&offers[1]).unwrap().file == file, whole);
+        // The subtable that both share, in the collection.
+        for offer in offers {
+            assert_eq!(offer.charmap.offset as usize, fonts::SHARED);
+        }
+    }
+}
+
+#[test]
+fn a_stored_job_has_the_numbers_of_whole_collections() {
+    let file = fonts::collection(&[400, 700]);
+    let mut builder = JobBuilder::new();
+    let font = FontFile::new(&file).whole().number(1);
+    let faces = [
+        builder.face(font).unwrap(),
+        builder.face(&fonts::weight(700)).unwrap(),
+    ];
+    let families = vec![builder.family(&faces).unwrap()];
+    let request = builder.request(&Request {
+        families,
+        ..Request::default()
+    });
+    let stored = Job::new(builder.build().unwrap().into_bytes()).unwrap();
+    let offers: Vec<Offer> = stored
+        .offers(request.unwrap())
+        .unwrap()
+        .map(Result::unwrap)
+        .collect();
+    let fonts = offers.iter().map(|offer| stored.font(offer).unwrap());
+    let numbers: Vec<_> = fonts.map(|font| (font.face, font.number)).collect();
+    assert_eq!(numbers, [(faces[0], 1), (faces[1], 0)]);
+    assert_eq!(stored.font(&offers[0]).unwrap().file, file);
 }

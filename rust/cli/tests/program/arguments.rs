@@ -239,7 +239,7 @@ fn files_with_the_names_of_options() {
 }
 
 /// Words of which command lines are made.
-const WORDS: [&str; 23] = [
+const WORDS: [&str; 25] = [
     "pick",
     "list",
     "job",
@@ -260,6 +260,8 @@ const WORDS: [&str; 23] = [
     "--whole",
     "--not-held=a.ttf",
     "--override=b.ttf:weight=300",
+    "a.ttf#0",
+    "c.ttc#1",
     "--requests",
     "",
     "-h",
@@ -269,6 +271,7 @@ const WORDS: [&str; 23] = [
 #[test]
 fn any_words_are_answered() {
     let folder = Folder::with_two("any-words");
+    folder.font("c.ttc", &fonts::collection(&[400, 700]));
     let page = folder.file("page.html");
     let mut words: Vec<OsString> = WORDS.map(OsString::from).to_vec();
     words.extend([folder.path().into(), folder.path().join("a.ttf").into()]);

@@ -136,7 +136,7 @@ fn what_cannot_be_used_is_skipped_with_its_reason() {
     for (name, reason) in [
         ("1.woff", "a WOFF file"),
         ("2.woff2", "a WOFF2 file"),
-        ("3.ttc", "a collection of fonts"),
+        ("3.ttc", "the header of the collection (ttcf) ends"),
         ("4.pfb", "a Type 1 font"),
         ("5.ttf", "the file is empty\n"),
         ("6.ttf", "it starts with \"<!DO\", as no"),

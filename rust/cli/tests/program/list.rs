@@ -67,7 +67,8 @@ fn json_of_the_same() {
     assert_eq!(value.keys(), ["faces", "skipped", "passedOver"]);
     let faces = value["faces"].list();
     assert_eq!(faces.len(), 2);
-    assert_eq!(faces[0].keys(), ["file", "read", "overridden"]);
+    assert_eq!(faces[0].keys(), ["file", "number", "read", "overridden"]);
+    assert_eq!(faces[0]["number"], Value::Null);
     assert_eq!(faces[0]["file"].text(), folder.file("a.ttf"));
     let read = &faces[0]["read"];
     let keys = ["width", "style", "angle", "weight", "axes", "charmap"];

@@ -1,6 +1,7 @@
 //! The program, run as it is: its words, files, output and exit codes.
 
 mod arguments;
+mod collections;
 #[path = "../../../stemhook/tests/common/mod.rs"]
 mod common;
 mod files;

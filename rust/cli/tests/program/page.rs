@@ -16,7 +16,7 @@ fn page(folder: &Folder, words: &[&str]) -> (String, String) {
 }
 
 /// The text between two others, each time.
-fn between<'a>(page: &'a str, start: &str, end: &str) -> Vec<&'a str> {
+pub fn between<'a>(page: &'a str, start: &str, end: &str) -> Vec<&'a str> {
     let pieces = page.split(start).skip(1);
     pieces
         .map(|piece| piece.split(end).next().unwrap())
@@ -24,7 +24,7 @@ fn between<'a>(page: &'a str, start: &str, end: &str) -> Vec<&'a str> {
 }
 
 /// The bytes of base64, held to its rules.
-fn decoded(text: &str) -> Vec<u8> {
+pub fn decoded(text: &str) -> Vec<u8> {
     let value = |digit: u8| match digit {
         b'A'..=b'Z' => u32::from(digit - b'A'),
         b'a'..=b'z' => u32::from(digit - b'a') + 26,
@@ -83,6 +83,41 @@ fn a_row_for_each_offer_and_a_font_for_each_face() {
     let fonts = [fonts::weight(400), fonts::weight(700), variable()];
     assert_eq!(embedded.len(), 1 + fonts.len());
     assert_eq!(embedded[1..], fonts);
+    let kinds = between(&page, "url(data:", ";");
+    assert_eq!(kinds, ["font/ttf", "font/ttf", "font/ttf", "font/otf"]);
+}
+
+/// A font of a collection is on the page as a file of its own.
+#[test]
+fn fonts_of_collections_are_taken_out() {
+    let folder = Folder::new("page-collection");
+    let two = fonts::collection(&[400, 700]);
+    let other = fonts::collected(&[fonts::weight(300), variable()]);
+    let a = folder.font("a.ttc", &two);
+    folder.font("b.ttc", &other);
+    let (a, b) = (a.to_str().unwrap(), folder.file("b.ttc#1"));
+    let (page, notes) = page(&folder, &[a, "--fallback", &b, "--weight=700"]);
+    let expected = "page.html: 1 request, 3 offers, 3 fonts\n";
+    assert!(notes.ends_with(expected), "{notes}");
+    for number in [0, 1] {
+        let row = format!("<b title=\"{a}#{number}\">a.ttc#{number}</b>");
+        assert!(page.contains(&row), "{row}");
+    }
+    let embedded = between(&page, ";base64,", ")");
+    let embedded: Vec<_> = embedded.into_iter().skip(1).map(decoded).collect();
+    let files = [(&two, 0), (&two, 1), (&other, 1)];
+    assert_eq!(embedded.len(), files.len());
+    for (font, (file, number)) in embedded.iter().zip(files) {
+        let mut read = plain::font::read(font, 0).unwrap();
+        let own = plain::font::read(file, number).unwrap();
+        let subtable = |file: &[u8], at: u32| file[at as usize..][..2].to_vec();
+        assert_eq!(
+            subtable(font, read.charmap.offset),
+            subtable(file, own.charmap.offset)
+        );
+        read.charmap.offset = own.charmap.offset;
+        assert_eq!(read, own);
+    }
     let kinds = between(&page, "url(data:", ";");
     assert_eq!(kinds, ["font/ttf", "font/ttf", "font/ttf", "font/otf"]);
 }

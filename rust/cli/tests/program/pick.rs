@@ -138,6 +138,7 @@ fn json_of_families_requests_and_skipped_files() {
     assert_eq!(families.len(), 2);
     assert_eq!(families[0]["folder"].text(), folder.text());
     assert_eq!(families[0]["files"][1].text(), folder.file("b.ttf"));
+    assert_eq!(families[0]["numbers"][1], Value::Null);
     assert_eq!(families[1]["fallback"], Value::Bool(true));
     assert_eq!(families[1]["files"].list().len(), 1);
 
@@ -163,7 +164,7 @@ fn json_of_offers() {
     let offers = &value["requests"][0]["offers"];
     let offer = &offers[2];
     let keys = [
-        "file", "family", "place", "settings", "embolden", "skew", "charmap",
+        "file", "number", "family", "place", "settings", "embolden", "skew", "charmap",
     ];
     assert_eq!(offer.keys(), keys);
     assert_eq!(offer["file"].text(), folder.file("v/v.otf"));

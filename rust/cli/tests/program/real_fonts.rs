@@ -6,17 +6,25 @@ use std::{collections::HashMap, env, fs};
 use crate::{
     common,
     json::Value,
+    page::{between, decoded},
     run::{Folder, stemhook},
 };
 
 const DEJAVU: &str = "truetype/dejavu";
 const CANTARELL: &str = "opentype/cantarell";
 const INTER: &str = "truetype/inter-vf";
+/// A collection of two fonts lies here.
+const WQY: &str = "truetype/wqy";
 
 /// The three folders, if they are there; else the test is skipped.
 fn folders(test: &str) -> Option<[String; 3]> {
+    these(test, [DEJAVU, CANTARELL, INTER])
+}
+
+/// Folders of fonts, if they are there; else the test is skipped.
+fn these<const N: usize>(test: &str, names: [&str; N]) -> Option<[String; N]> {
     let fonts = env::var("STEMHOOK_FONTS").unwrap_or_else(|_| "/usr/share/fonts".into());
-    let folders = [DEJAVU, CANTARELL, INTER].map(|name| format!("{fonts}/{name}"));
+    let folders = names.map(|name| format!("{fonts}/{name}"));
     if let Some(missing) = folders.iter().find(|folder| fs::metadata(folder).is_err()) {
         let lack = format!("{missing} is not there: run tools/install-fonts");
         common::skip(test, &lack);
@@ -111,4 +119,36 @@ fn a_page_of_them() {
         said.lines().count() - 1
     );
     assert!(html.ends_with("</html>\n"));
+}
+
+/// Both fonts of a collection are offered, and from a page's own files the same.
+#[test]
+fn a_collection_and_its_fonts_taken_out() {
+    let Some([wqy]) = these("a_collection_and_its_fonts_taken_out", [WQY]) else {
+        return;
+    };
+    let file = format!("{wqy}/wqy-microhei.ttc");
+    let said = stemhook(["pick", &wqy, "--weight=650", "--style=italic"]).well();
+    let (lines, whole) = (said.lines().skip(1), ["--whole", "--style=italic"]);
+    let lines: Vec<&str> = lines.map(|line| line.split(';').next().unwrap()).collect();
+    let expected = [0, 1].map(|number| format!("  {file}#{number}: embolden, skew 14"));
+    assert_eq!(lines, expected);
+    let words = ["pick", &file, "--weight=650"];
+    assert_eq!(stemhook([&words[..], &whole].concat()).well(), said);
+
+    let folder = Folder::new("real-collection");
+    let page = folder.file("page.html");
+    for number in [0, 1] {
+        let font = format!("{file}#{number}");
+        stemhook(["specimen", "-q", &font, "-o", &page]).well();
+        let html = fs::read_to_string(&page).unwrap();
+        let fonts = between(&html, ";base64,", ")");
+        let alone = folder.font("alone.ttf", &decoded(fonts[1]));
+        let [listed, alone] = [font.as_str(), alone.to_str().unwrap()].map(|font| {
+            let said = stemhook(["list", font]).well();
+            let (_, read) = said.split_once(": ").unwrap();
+            read.split("charmap").next().unwrap().to_owned()
+        });
+        assert_eq!(listed, alone);
+    }
 }

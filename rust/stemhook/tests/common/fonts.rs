@@ -47,3 +47,49 @@ pub fn variable(axes: &[([u8; 4], i16, i16, i16)]) -> Vec<u8> {
     ];
     file(*b"OTTO", &tables)
 }
+
+/// A collection of fonts of some weights. They share their `cmap`, and their
+/// directories stand after the tables.
+#[allow(dead_code)]
+pub fn collection(weights: &[u16]) -> Vec<u8> {
+    let font = |weight: &u16| {
+        let tables = vec![(*b"OS/2", os2(*weight, 5, 0)), (*b"cmap", cmap(3, 1))];
+        ([0, 1, 0, 0], tables)
+    };
+    let fonts: Vec<_> = weights.iter().map(font).collect();
+    jobs::bytes::collection(1, &fonts, |_| true)
+}
+
+/// Where the subtable lies that the fonts of a collection of two share.
+#[allow(dead_code)]
+pub const SHARED: usize = 12 + 4 * 2 + 78 + 12;
+
+/// A collection of font files: their directories anew, then the files as they
+/// are.
+#[allow(dead_code)]
+pub fn collected(fonts: &[Vec<u8>]) -> Vec<u8> {
+    use jobs::bytes::{get32, put32};
+    let directory = |font: &Vec<u8>| {
+        let count = u16::from_be_bytes([font[4], font[5]]);
+        font.len().min(12 + 16 * usize::from(count))
+    };
+    let mut bytes = b"ttcf\0\x02\0\0".to_vec();
+    bytes.extend((fonts.len() as u32).to_be_bytes());
+    let mut start = 12 + 4 * fonts.len();
+    for font in fonts {
+        bytes.extend((start as u32).to_be_bytes());
+        start += directory(font);
+    }
+    // Now it is where the first file stands.
+    for font in fonts {
+        let mut copy = font[..directory(font)].to_vec();
+        for record in copy[12..].chunks_exact_mut(16) {
+            let offset = get32(record, 8).saturating_add(start as u32);
+            put32(record, 8, offset);
+        }
+        bytes.extend(copy);
+        start += font.len();
+    }
+    bytes.extend(fonts.concat());
+    bytes
+}

@@ -122,3 +122,17 @@ pub fn jobs(list: &[u8]) -> Vec<&[u8]> {
     assert!(rest.is_empty(), "the list ends within a length");
     jobs
 }
+
+/// The fonts of a list, each a 32-bit length, the file, and its font number.
+pub fn numbered_fonts(list: &[u8]) -> Vec<(&[u8], u16)> {
+    let mut fonts = Vec::new();
+    let mut rest = list;
+    while let Some((length, after)) = rest.split_first_chunk::<4>() {
+        let (file, after) = after.split_at(u32::from_be_bytes(*length) as usize);
+        let (number, next) = after.split_first_chunk().expect("the number is there");
+        fonts.push((file, u16::from_be_bytes(*number)));
+        rest = next;
+    }
+    assert!(rest.is_empty(), "the list ends within a length");
+    fonts
+}
