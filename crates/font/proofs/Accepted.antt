@@ -18,13 +18,13 @@ use Rattle.font.specs.declared.attributes.Angle.the-variants.{Unstated, 
 use Rattle.font.specs.declared.attributes.FontStyle.the-variants.{Normal, Italic, Oblique}
 use Rattle.font.specs.declared.font.FontInfo.{FontInfo}
 use Rattle.font.specs.declared.tables.Table.{Table}
-use Rattle.font.specs.declared.tables.Table.the-variants.{Absent, Found}
+use Rattle.font.specs.declared.tables.Table.the-variants.{Absent, Damaged, Found}
 use Rattle.font.specs.First.{every}
 use Rattle.font.specs.Single.{single, fixedToSingle, acceptedRatio}
 use Rattle.font.specs.Attributes.{attributesOf, defaultAttributes, acceptedAngle, acceptedStyle, acceptedAttributes}
 use Rattle.font.specs.Tables.{u16At, u32At, findTable, partOf, tableData}
 use Rattle.font.specs.Collection.{fontStart}
-use Rattle.font.specs.Reading.{present, bit, thousandths, classWidths, widthOfClass, postAngle, os2Style, fromOs2Post, headStyle, headWeight, fromHead, readAttributes}
+use Rattle.font.specs.Reading.{present, bit, thousandths, classWidths, widthOfClass, postAngle, os2Style, fromOs2Post, headStyle, headWeight, fromHead, fromTables}
 use Rattle.font.specs.Font.{fvarOf, axisCount, axisAt, axesOf, emptyFont, faceOf, fromFontRef}
 use Rattle.font.specs.Overrides.{axisOf, acceptedAxis, acceptedFace, refusalOf}
 use Rattle.font.proofs.Units.{value-finite, grid-le, round-value}
@@ -68,6 +68,7 @@ drop-bytes n s h i = rw (getD-drop n s i 0) (h (n + i))
 part-bytes : (font : List ℕ) → Bytes font → (t : Table) → Bytes (partOf font t)
 unfolding partOf
 part-bytes font h Absent i = lit< tt
+part-bytes font h Damaged i = lit< tt
 part-bytes font h (Found offset len) i = take-bytes len (drop offset font) (drop-bytes offset font h) i
 
 table-bytes : (font : List ℕ) (start tag least : ℕ) → Bytes font → Bytes (tableData font start tag least)
@@ -145,8 +146,8 @@ default-accepted : acceptedAttributes defaultAttributes ≡ true
 unfolding defaultAttributes
 default-accepted = made (single 1) Normal (single 400) one-accepted (upright false) (single-finite 400 (lit< tt))
 
-attributes-accepted : (font : List ℕ) (start : ℕ) → Bytes font → acceptedAttributes (readAttributes font start) ≡ true
-unfolding readAttributes
+attributes-accepted : (font : List ℕ) (start : ℕ) → Bytes font → acceptedAttributes (fromTables font start) ≡ true
+unfolding fromTables
 attributes-accepted font start h = go (present (tableData font start 0x4F532F32 78)) (present (tableData font start 0x68656164 54))
   where
     os2 : List ℕ

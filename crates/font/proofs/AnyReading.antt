@@ -1,4 +1,4 @@
--- An absent table and an unreadable field are never taken for data: each reading that is right for fields that lie whole in the bytes gives the attributes, the
+-- An absent or damaged table and an unreadable field are never taken for data: each reading that is right for fields that lie whole in the bytes gives the attributes, the
 -- charmap index and the face that the definitions give (`FieldReadings.antt`), whatever it gives for other fields. Assumes nothing.
 use Prim.Native.Nat.{ℕ, _+_, _*_, _≤_, _<_}
 use mathlib.Core.Path.{_≡_, refl, ap}
@@ -9,20 +9,21 @@ use lib.ListN.{length}
 use lib.Dec.{leb, ltb, eqb}
 use borrow.Author.Tests.{leb-true, le-leb, lt-ltb, le-ltb, ltb-true}
 use Rattle.font.specs.declared.tables.Table.{Table}
-use Rattle.font.specs.declared.tables.Table.the-variants.{Absent, Found}
+use Rattle.font.specs.declared.tables.Table.the-variants.{Absent, Damaged, Found}
 use Rattle.font.specs.declared.charmap.CharmapIndex.{CharmapIndex}
 use Rattle.font.specs.declared.charmap.Charmap.the-variants.{Missing, Index}
 use Rattle.font.specs.declared.font.AxisInfo.{AxisInfo}
 use Rattle.font.specs.declared.font.Checked.{Checked}
+use Rattle.font.specs.declared.font.FontAttributes.the-variants.{Lost, Stated}
 use Rattle.font.specs.declared.font.FontInfo.{FontInfo}
 use Rattle.font.specs.Attributes.{defaultAttributes}
-use Rattle.font.specs.Tables.{u16At, u32At, startsAsFont, recordCount, recordTag, recordOffset, recordLength, directoryFits, firstRecord, tableOfRecord, findTable, partOf, tableData}
+use Rattle.font.specs.Tables.{u16At, u32At, startsAsFont, recordCount, recordTag, recordOffset, recordLength, directoryFits, firstRecord, tableOfRecord, findTable, partOf, tableData, handOut, handedTable, isDamaged}
 use Rattle.font.specs.Collection.{isCollection, headerFits, fontCount, offsetsFit, offsetOf, fontStart}
-use Rattle.font.specs.Reading.{present, postAngle, os2Style, fromOs2Post, fromHead, readAttributes}
+use Rattle.font.specs.Reading.{present, postAngle, os2Style, fromOs2Post, fromHead, fromTables, needsPost, neededDamaged, losesNeeded, readAttributes}
 use Rattle.font.specs.First.{first}
 use Rattle.font.specs.Charmap.{classOf, subtableOffset, liesIn, pairClass, qualifies, recordClass, someQualifies, bestClass, bestRecord, indexOf, indexIn, charmapIndex}
 use Rattle.font.specs.Font.{fvarOf, axisCount, axisAt, noAxis, axesOf, refusalAt, fontRefusal, emptyFont, faceOf, checkedBy, fromFontRef, statesAxis}
-use Rattle.font.proofs.FieldReadings.{Fields, bytesAt, countBy, startBy, fitsBy, recordBy, tableBy, findBy, angleBy, os2By, headBy, statedBy, attributesBy, countInBy, axisCountBy, axisBy, axesBy, statesBy, classBy, qualifiesBy, recordClassBy, indexInBy, indexBy, refusalAtBy, refusalBy, faceBy, fontBy}
+use Rattle.font.proofs.FieldReadings.{Fields, bytesAt, lost, countBy, startBy, fitsBy, recordBy, tableBy, findBy, angleBy, os2By, headBy, withoutBy, statedBy, attributesBy, needsPostBy, neededBy, losesBy, countInBy, axisCountBy, axisBy, axesBy, statesBy, classBy, qualifiesBy, recordClassBy, indexInBy, indexBy, refusalAtBy, refusalBy, faceBy, fontBy}
 use Rattle.font.proofs.First.{first-same}
 use Rattle.font.proofs.Tabulated.{same}
 use Rattle.font.proofs.Lookup.{records-inside, long}
@@ -112,6 +113,7 @@ module _ (r16 r32 : Fields) (right : Right r16 r32) where
   angle-same : (font : List ℕ) (start : ℕ) (t : Table) → findTable font start 0x706F7374 32 ≡ t → angleBy r16 r32 font t ≡ postAngle (partOf font t)
   unfolding angleBy postAngle partOf present
   angle-same font start Absent e = refl
+  angle-same font start Damaged e = refl
   angle-same font start (Found o n) e = rw (there font start 0x706F7374 32 o n e (omega arith), right .whole32 (bytesAt font o n) 4 (omega (arith, long font start 0x706F7374 32 o n e)))
 
   os2-same : (os2 post : List ℕ) → 78 ≤ length os2 → os2By r16 r32 os2 (postAngle post) ≡ fromOs2Post os2 post
@@ -122,21 +124,53 @@ module _ (r16 r32 : Fields) (right : Right r16 r32) where
   unfolding headBy fromHead
   head-same head l = rw (right .whole16 head 44 (omega arith))
 
+  without-same : (font : List ℕ) (start : ℕ) (head : Table) → findTable font start 0x68656164 54 ≡ head
+      → withoutBy r16 r32 font head ≡ cond (present (partOf font head)) (fromHead (partOf font head)) defaultAttributes
+  unfolding withoutBy partOf present
+  without-same font start (Found o n) h =
+      rw (there font start 0x68656164 54 o n h (omega arith)) (head-same (bytesAt font o n) (long font start 0x68656164 54 o n h))
+  without-same font start Damaged h = refl
+  without-same font start Absent h = refl
+
   stated-same : (font : List ℕ) (start : ℕ) (os2 post head : Table) → findTable font start 0x4F532F32 78 ≡ os2 → findTable font start 0x706F7374 32 ≡ post → findTable font start 0x68656164 54 ≡ head
       → statedBy r16 r32 font os2 post head
       ≡ cond (present (partOf font os2)) (fromOs2Post (partOf font os2) (partOf font post)) (cond (present (partOf font head)) (fromHead (partOf font head)) defaultAttributes)
   unfolding statedBy partOf present
   stated-same font start (Found o n) post head e p h =
       rw (there font start 0x4F532F32 78 o n e (omega arith), angle-same font start post p) (os2-same (bytesAt font o n) (partOf font post) (long font start 0x4F532F32 78 o n e))
-  stated-same font start Absent post (Found o n) e p h =
-      rw (there font start 0x68656164 54 o n h (omega arith)) (head-same (bytesAt font o n) (long font start 0x68656164 54 o n h))
-  stated-same font start Absent post Absent e p h = refl
+  stated-same font start Damaged post head e p h = without-same font start head h
+  stated-same font start Absent post head e p h = without-same font start head h
 
-  pub attributes-same : (font : List ℕ) (start : ℕ) → attributesBy r16 r32 font start ≡ readAttributes font start
-  unfolding attributesBy readAttributes tableData
-  attributes-same font start =
+  tables-same : (font : List ℕ) (start : ℕ) → attributesBy r16 r32 font start ≡ fromTables font start
+  unfolding attributesBy fromTables tableData
+  tables-same font start =
       rw (find-same font start 0x4F532F32 78, find-same font start 0x706F7374 32, find-same font start 0x68656164 54)
       (stated-same font start (findTable font start 0x4F532F32 78) (findTable font start 0x706F7374 32) (findTable font start 0x68656164 54) refl refl refl)
+
+  -- whether a table that they need is damaged
+  lost-same : (font : List ℕ) (t : Table) → lost t ≡ isDamaged (handOut font t)
+  unfolding lost isDamaged handOut
+  lost-same font Absent = refl
+  lost-same font Damaged = refl
+  lost-same font (Found o n) = refl
+
+  needed-same : (font : List ℕ) (start : ℕ) (os2 post head : Table) → findTable font start 0x4F532F32 78 ≡ os2
+      → neededBy r16 r32 font os2 post head ≡ neededDamaged (handOut font os2) (handOut font head) (handOut font post)
+  unfolding neededBy neededDamaged handOut partOf needsPostBy needsPost
+  needed-same font start Absent post head e = lost-same font head
+  needed-same font start Damaged post head e = refl
+  needed-same font start (Found o n) post head e =
+      rw (right .whole16 (bytesAt font o n) 62 (omega (arith, long font start 0x4F532F32 78 o n e)), lost-same font post)
+
+  loses-same : (font : List ℕ) (start : ℕ) → losesBy r16 r32 font start ≡ losesNeeded font start
+  unfolding losesBy losesNeeded handedTable
+  loses-same font start =
+      rw (find-same font start 0x4F532F32 78, find-same font start 0x706F7374 32, find-same font start 0x68656164 54)
+      (needed-same font start (findTable font start 0x4F532F32 78) (findTable font start 0x706F7374 32) (findTable font start 0x68656164 54) refl)
+
+  pub attributes-same : (font : List ℕ) (start : ℕ) → cond (losesBy r16 r32 font start) Lost (Stated (attributesBy r16 r32 font start)) ≡ readAttributes font start
+  unfolding readAttributes
+  attributes-same font start = rw (loses-same font start, tables-same font start)
 
   -- ---- axes
   count-in-same : (fvar : List ℕ) → 16 ≤ length fvar → present fvar ≡ true → countInBy r16 r32 fvar ≡ axisCount fvar
@@ -158,11 +192,13 @@ module _ (r16 r32 : Fields) (right : Right r16 r32) where
   axis-count-same : (font : List ℕ) (start : ℕ) (t : Table) → findTable font start 0x66766172 16 ≡ t → axisCountBy r16 r32 font t ≡ axisCount (partOf font t)
   unfolding axisCountBy axisCount partOf present
   axis-count-same font start Absent e = refl
+  axis-count-same font start Damaged e = refl
   axis-count-same font start (Found o n) e = found-count font start o n e
 
   axes-same : (font : List ℕ) (start : ℕ) (t : Table) → findTable font start 0x66766172 16 ≡ t → axesBy r16 r32 font t ≡ axesOf (partOf font t) (axisCount (partOf font t))
   unfolding axesBy axesOf partOf present axisCount
   axes-same font start Absent e = same (λ i. noAxis) (λ i. cond (ltb i 0) (axisAt [] i) noAxis) 16 noAxis (λ i l. rw (le-ltb i 0 (omega arith)))
+  axes-same font start Damaged e = same (λ i. noAxis) (λ i. cond (ltb i 0) (axisAt [] i) noAxis) 16 noAxis (λ i l. rw (le-ltb i 0 (omega arith)))
   axes-same font start (Found o n) e =
       let fvar = bytesAt font o n in
       rw (found-count font start o n e)
@@ -178,6 +214,7 @@ module _ (r16 r32 : Fields) (right : Right r16 r32) where
       → statesBy r16 r32 font tag t ≡ ltb (first (λ i. eqb (axisAt (partOf font t) i .tag) tag) (axisCount (partOf font t))) (axisCount (partOf font t))
   unfolding statesBy partOf present axisCount first
   states-same font start tag Absent e = refl
+  states-same font start tag Damaged e = refl
   states-same font start tag (Found o n) e =
       let fvar = bytesAt font o n in
       rw (found-count font start o n e)
@@ -232,6 +269,7 @@ module _ (r16 r32 : Fields) (right : Right r16 r32) where
   index-same : (font : List ℕ) (start : ℕ) (t : Table) → findTable font start 0x636D6170 4 ≡ t → indexBy r16 r32 font t ≡ indexIn font t
   unfolding indexBy indexIn partOf
   index-same font start Absent e = refl
+  index-same font start Damaged e = refl
   index-same font start (Found o n) e = index-in-same o (bytesAt font o n) (long font start 0x636D6170 4 o n e)
 
   pub charmap-same : (font : List ℕ) (start : ℕ) → indexBy r16 r32 font (findBy r16 r32 font start 0x636D6170 4) ≡ charmapIndex font start
@@ -249,11 +287,11 @@ module _ (r16 r32 : Fields) (right : Right r16 r32) where
 
   at-same : (font : List ℕ) (start : ℕ) → refusalAtBy r16 r32 font start ≡ refusalAt font start
   unfolding refusalAtBy refusalAt
-  at-same font start = rw (fits-same font start, charmap-same font start, count-of-same font start)
+  at-same font start = rw (fits-same font start, loses-same font start, charmap-same font start, count-of-same font start)
 
   face-same : (font : List ℕ) (start : ℕ) → faceBy r16 r32 font start ≡ faceOf font start
   unfolding faceBy faceOf
-  face-same font start = rw (attributes-same font start, axes-of-same font start, count-of-same font start, charmap-same font start)
+  face-same font start = rw (tables-same font start, axes-of-same font start, count-of-same font start, charmap-same font start)
 
   -- ---- the fonts of a file
   module _ (font : List ℕ) (header : headerFits font ≡ true) where

@@ -10,26 +10,53 @@ use lib.ListN.{length, take, length-take}
 use lib.Seq.{take-take, take-all}
 use lib.Dec.{leb, ltb, eqb}
 use borrow.Author.Tests.{leb-true, leb-false, lt-leb, ltb-true, ltb-false}
-use Rattle.font.specs.Tables.{u16At, directoryFits, findTable, partOf, tableData}
+use Rattle.font.specs.declared.tables.Table.{Table}
+use Rattle.font.specs.declared.tables.Table.the-variants.{Absent, Damaged, Found}
+use Rattle.font.specs.Tables.{u16At, directoryFits, findTable, partOf, Handed, no-table, damaged-table, found-table, handOut, handedTable, bytesOf}
 use Rattle.font.specs.Charmap.{liesIn, pairClass, qualifies}
 use Rattle.font.specs.Reading.{present}
 use Rattle.font.specs.Font.{axisCount}
-use Rattle.font.specs.LookedAt.{Agree, Alike, absent, found, AxesAlike, no-axes, with-axes, Keeps, RecordsAlike, CutAxes, cut, left-out, CutRecords, os2, post, head, fvar, cmap, SameTables, EqualTables, CutTables, SameReading}
-use Rattle.font.proofs.Lookup.{none-or-long}
+use Rattle.font.specs.LookedAt.{Agree, Alike, absent, damaged, found, AxesAlike, no-axes, with-axes, Keeps, RecordsAlike, cutTo, CutAxes, cut, left-out, CutRecords, Five, os2, post, head, fvar, cmap, SameTables, EqualTables, CutTables, SameReading}
+use Rattle.font.proofs.Lookup.{long}
 use Rattle.font.proofs.LookedAt.{read-alike}
 
--- a table is handed out as no bytes or as at least those that were asked for
+-- a found table has at least the bytes that were asked for
+unfoldable pub Long : ℕ → Handed → Type 0
+Long least no-table = Unit {0}
+Long least damaged-table = Unit {0}
+Long least (found-table s) = least ≤ length s
+
 abbrev NoneOrLong : ℕ → List ℕ → Type 0
 NoneOrLong least s = (s ≡ []) ⊎ (least ≤ length s)
+
+none-or : (least : ℕ) (s : Handed) → Long least s → NoneOrLong least (bytesOf s)
+unfolding Long bytesOf
+none-or least no-table l = inl refl
+none-or least damaged-table l = inl refl
+none-or least (found-table s) l = inr l
+
+handed-long : (font : List ℕ) (start tag least : ℕ) → Long least (handedTable font start tag least)
+unfolding Long handedTable handOut partOf
+handed-long font start tag least = go (findTable font start tag least) refl
+  where
+    go : (t : Table) → findTable font start tag least ≡ t → Long least (handOut font t)
+    go Absent e = tt
+    go Damaged e = tt
+    go (Found o n) e = long font start tag least o n e
 
 -- ---- the same tables
 
 agree-equal : (n : ℕ) {s t : List ℕ} → n ≤ length s → s ≡ t → Agree n s t
 agree-equal n l e = record { in-first = l; in-second = rw (← e) l; same = ap (take n) e }
 
-equal-alike : {n : ℕ} {s t : List ℕ} → NoneOrLong n s → s ≡ t → Alike n s t
-equal-alike (inl h) e = absent h (sym e ∙ h)
-equal-alike {n} (inr h) e = found (agree-equal n h e)
+equal-alike : {n : ℕ} {s t : Handed} → Long n s → s ≡ t → Alike n s t
+unfolding Long
+equal-alike {n} {s} l e = rw (← e) (itself s l)
+  where
+    itself : (s : Handed) → Long n s → Alike n s s
+    itself no-table l = absent
+    itself damaged-table l = damaged
+    itself (found-table s) l = found (agree-equal n l refl)
 
 -- records past the table, or no table
 past-none : (s : List ℕ) → length s < u16At s 4 + 20 * u16At s 8 → axisCount s ≡ 0
@@ -64,12 +91,14 @@ equal-records {c} {d} e = record { forth = keeps c d e; back = keeps d c (sym e)
 agree-cut : (n : ℕ) (s : List ℕ) → n ≤ length s → Agree n s (take n s)
 agree-cut n s l = record { in-first = l; in-second = rw length-take (omega arith); same = sym (take-take n n s (omega arith)) }
 
-cut-alike : {n : ℕ} {s t : List ℕ} → NoneOrLong n s → t ≡ take n s → Alike n s t
-cut-alike {n} {s} (inl h) e = absent h (e ∙ none h)
+cut-alike : {n : ℕ} {s t : Handed} → Long n s → t ≡ cutTo n s → Alike n s t
+unfolding Long cutTo
+cut-alike {n} {s} l e = rw e (cut-itself s l)
   where
-    none : s ≡ [] → take n s ≡ []
-    none h = take-all n s (rw h (omega arith)) ∙ h
-cut-alike {n} {s} (inr h) e = found (rw e (agree-cut n s h))
+    cut-itself : (s : Handed) → Long n s → Alike n s (cutTo n s)
+    cut-itself no-table l = absent
+    cut-itself damaged-table l = damaged
+    cut-itself (found-table s) l = found (agree-cut n s l)
 
 cut-axes : {s t : List ℕ} → NoneOrLong 16 s → CutAxes s t → AxesAlike s t
 cut-axes h (left-out z e) = no-axes z (empty-none e)
@@ -120,15 +149,26 @@ module _ {c d : List ℕ} (h : CutRecords c d) where
 
 -- ---- all five
 
-module _ (s t : ℕ → ℕ → List ℕ) (long : (tag least : ℕ) → NoneOrLong least (s tag least)) where
+-- the same answers for all five
+pub all-equal : (s t : ℕ → ℕ → Handed) → ((tag least : ℕ) → Five tag least → s tag least ≡ t tag least) → EqualTables s t
+all-equal s t h =
+    record {
+      os2 = h 0x4F532F32 78 os2;
+      post = h 0x706F7374 32 post;
+      head = h 0x68656164 54 head;
+      fvar = ap bytesOf (h 0x66766172 16 fvar);
+      cmap = ap bytesOf (h 0x636D6170 4 cmap);
+    }
+
+module _ (s t : ℕ → ℕ → Handed) (long : (tag least : ℕ) → Long least (s tag least)) where
   pub equal-same : EqualTables s t → SameTables s t
   equal-same h =
       record {
-        os2 = equal-alike (long 0x4F532F32 78) (h 0x4F532F32 78 os2);
-        post = equal-alike (long 0x706F7374 32) (h 0x706F7374 32 post);
-        head = equal-alike (long 0x68656164 54) (h 0x68656164 54 head);
-        fvar = equal-axes (long 0x66766172 16) (h 0x66766172 16 fvar);
-        cmap = equal-records (h 0x636D6170 4 cmap);
+        os2 = equal-alike (long 0x4F532F32 78) (h .os2);
+        post = equal-alike (long 0x706F7374 32) (h .post);
+        head = equal-alike (long 0x68656164 54) (h .head);
+        fvar = equal-axes (none-or 16 (s 0x66766172 16) (long 0x66766172 16)) (h .fvar);
+        cmap = equal-records (h .cmap);
       }
 
   pub cut-same : CutTables s t → SameTables s t
@@ -137,23 +177,24 @@ module _ (s t : ℕ → ℕ → List ℕ) (long : (tag least : ℕ) → NoneOrLo
         os2 = cut-alike (long 0x4F532F32 78) (h .os2);
         post = cut-alike (long 0x706F7374 32) (h .post);
         head = cut-alike (long 0x68656164 54) (h .head);
-        fvar = cut-axes (long 0x66766172 16) (h .fvar);
+        fvar = cut-axes (none-or 16 (s 0x66766172 16) (long 0x66766172 16)) (h .fvar);
         cmap = cut-records (h .cmap);
       }
 
 -- ---- font files, each from its directory's start on
 
 module _ (f : List ℕ) (a : ℕ) (g : List ℕ) (b : ℕ) (fits : directoryFits f a ≡ directoryFits g b) where
-  pub read-equal : EqualTables (tableData f a) (tableData g b) → SameReading f a g b
-  read-equal h = read-alike f a g b fits (equal-same (tableData f a) (tableData g b) (none-or-long f a) h)
+  pub read-equal : EqualTables (handedTable f a) (handedTable g b) → SameReading f a g b
+  read-equal h = read-alike f a g b (equal-same (handedTable f a) (handedTable g b) (handed-long f a) h) fits
 
-  pub read-cut : CutTables (tableData f a) (tableData g b) → SameReading f a g b
-  read-cut h = read-alike f a g b fits (cut-same (tableData f a) (tableData g b) (none-or-long f a) h)
+  pub read-cut : CutTables (handedTable f a) (handedTable g b) → SameReading f a g b
+  read-cut h = read-alike f a g b (cut-same (handedTable f a) (handedTable g b) (handed-long f a) h) fits
 
 -- where no directory fits there are no tables
-no-tables : (font : List ℕ) (start tag least : ℕ) → directoryFits font start ≡ false → tableData font start tag least ≡ []
-unfolding tableData findTable partOf
+no-tables : (font : List ℕ) (start tag least : ℕ) → directoryFits font start ≡ false → handedTable font start tag least ≡ no-table
+unfolding handedTable handOut findTable
 no-tables font start tag least e = rw e
 
 pub read-none : (f : List ℕ) (a : ℕ) (g : List ℕ) (b : ℕ) → directoryFits f a ≡ false → directoryFits g b ≡ false → SameReading f a g b
-read-none f a g b e h = read-equal f a g b (e ∙ sym h) (λ tag least t. no-tables f a tag least e ∙ sym (no-tables g b tag least h))
+read-none f a g b e h =
+    read-equal f a g b (e ∙ sym h) (all-equal (handedTable f a) (handedTable g b) (λ tag least t. no-tables f a tag least e ∙ sym (no-tables g b tag least h)))

@@ -11,15 +11,15 @@ use lib.Seq.{take-append-le, drop-append-le, take-set-le, drop-set-lt, drop-set-
 use lib.Dec.{leb, ltb, eqb}
 use borrow.Author.Tests.{le-leb, ltb-true}
 use Rattle.font.specs.declared.tables.Table.{Table}
-use Rattle.font.specs.declared.tables.Table.the-variants.{Absent, Found}
-use Rattle.font.specs.Tables.{recordCount, recordTag, recordOffset, recordLength, directoryFits, firstRecord, tableOfRecord, findTable, partOf, tableData}
+use Rattle.font.specs.declared.tables.Table.the-variants.{Absent, Damaged, Found}
+use Rattle.font.specs.Tables.{recordCount, recordTag, recordOffset, recordLength, directoryFits, firstRecord, tableOfRecord, findTable, partOf, found-table, handOut, handedTable}
 use Rattle.font.specs.Charmap.{indexOf, indexIn, charmapIndex}
 use Rattle.font.specs.Font.{faceOf, checkedBy, checkedAt}
 use Rattle.font.specs.LookedAt.{Agree, Five, cmap}
 use Rattle.font.proofs.First.{first-same}
 use Rattle.font.proofs.Lookup.{records-inside, within}
 use Rattle.font.proofs.LookedAt.{field16, field32}
-use Rattle.font.proofs.CutTables.{read-equal}
+use Rattle.font.proofs.CutTables.{all-equal, read-equal}
 
 -- where the table of the first record with a tag ends
 abbrev pub endOf : List ℕ → ℕ → ℕ → ℕ
@@ -69,13 +69,14 @@ module _ (f g : List ℕ) (start : ℕ) (fits : directoryFits f start ≡ true) 
   module _ (ends : (tag least : ℕ) → Five tag least → firstRecord f start tag < recordCount f start → leb (endOf f start tag) (length f) ≡ leb (endOf f start tag) (length g))
       (bytes : (tag least o n : ℕ) → Five tag least → findTable f start tag least ≡ Found o n → take n (drop o f) ≡ take n (drop o g))
     where
-      data-same : (tag least : ℕ) → Five tag least → tableData f start tag least ≡ tableData g start tag least
-      unfolding tableData partOf
-      data-same tag least t = rw (← find-same tag least (ends tag least t)) (go (findTable f start tag least) refl)
+      handed-same : (tag least : ℕ) → Five tag least → handedTable f start tag least ≡ handedTable g start tag least
+      unfolding handedTable handOut partOf
+      handed-same tag least t = rw (← find-same tag least (ends tag least t)) (go (findTable f start tag least) refl)
         where
-          go : (u : Table) → findTable f start tag least ≡ u → partOf f u ≡ partOf g u
+          go : (u : Table) → findTable f start tag least ≡ u → handOut f u ≡ handOut g u
           go Absent e = refl
-          go (Found o n) e = bytes tag least o n t e
+          go Damaged e = refl
+          go (Found o n) e = ap found-table (bytes tag least o n t e)
 
       index-same : charmapIndex f start ≡ charmapIndex g start
       unfolding charmapIndex indexIn partOf
@@ -83,13 +84,14 @@ module _ (f g : List ℕ) (start : ℕ) (fits : directoryFits f start ≡ true) 
         where
           go : (u : Table) → findTable f start 0x636D6170 4 ≡ u → indexIn f u ≡ indexIn g u
           go Absent e = refl
+          go Damaged e = refl
           go (Found o n) e = ap (indexOf o) (bytes 0x636D6170 4 o n cmap e)
 
       pub font-kept : checkedAt f start ≡ checkedAt g start
       unfolding checkedAt checkedBy faceOf
       font-kept =
-          let r = read-equal f start g start fits-same data-same in
-          rw (r .refusal, r .attributes, r .axes, r .axis-count, index-same)
+          let r = read-equal f start g start fits-same (all-equal (handedTable f start) (handedTable g start) handed-same) in
+          rw (r .refusal, r .from-tables, r .axes, r .axis-count, index-same)
 
 -- another byte at k, past the directory and outside the five tables, in the font whose directory begins at `start`
 pub byte-changed : (f : List ℕ) (start k b : ℕ) → directoryFits f start ≡ true → start + 12 + 16 * recordCount f start ≤ k
@@ -107,7 +109,7 @@ byte-changed f start k b fits past outside =
         let at : k ≡ o + (k - o) = omega arith in
         sym (ap (λ (i : ℕ). take n (drop o (set f i b))) at ∙ ap (take n) (drop-set-add o f (k - o) b) ∙ take-set-le n (drop o f) (k - o) b (omega arith))
 
--- more bytes at the end, where none of the five is absent for reaching past the file
+-- more bytes at the end, where none of the five reaches past the file
 pub appended : (f more : List ℕ) (start : ℕ) → directoryFits f start ≡ true
     → ((tag least : ℕ) → Five tag least → firstRecord f start tag < recordCount f start → endOf f start tag ≤ length f)
     → checkedAt f start ≡ checkedAt (f ++ more) start

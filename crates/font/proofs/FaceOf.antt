@@ -8,10 +8,10 @@ use lib.Dec.{leb, ltb, eqb}
 use borrow.Author.Tests.{leb-true, lt-ltb, ltb-true, eq-eqb, ne-eqb}
 use Rattle.font.specs.declared.font.AxisInfo.{AxisInfo}
 use Rattle.font.specs.declared.font.FontInfo.{FontInfo}
-use Rattle.font.specs.Tables.{directoryFits}
+use Rattle.font.specs.Tables.{tableData, directoryFits}
 use Rattle.font.specs.Collection.{headerFits, fontCount, fontStart}
 use Rattle.font.specs.Charmap.{charmapIndex}
-use Rattle.font.specs.Reading.{readAttributes}
+use Rattle.font.specs.Reading.{fromTables, losesNeeded}
 use Rattle.font.specs.Font.{fvarOf, axisCount, axisAt, noAxis, axesOf, hasIndex, faceOf, emptyFont, refusalAt, fontRefusal, checkedBy, fromFontRef, statesAxis}
 use Rattle.font.specs.Overrides.{axisOf, firstAxis}
 use Rattle.font.proofs.First.{first-same}
@@ -26,26 +26,29 @@ pub data OneOf (n : ℕ) : Type 0 where
   charmap : n ≡ 22 → OneOf n
   axes : n ≡ 23 → OneOf n
   number : n ≡ 30 → OneOf n
+  damage : n ≡ 31 → OneOf n
 
 at-one-of : (font : List ℕ) (start : ℕ) → OneOf (refusalAt font start)
 unfolding refusalAt
-at-one-of font start = go (directoryFits font start) (hasIndex (charmapIndex font start)) (leb (axisCount (fvarOf font start)) 16)
+at-one-of font start = go (directoryFits font start) (losesNeeded font start) (hasIndex (charmapIndex font start)) (leb (axisCount (fvarOf font start)) 16)
   where
-    go : (a b c : Bool) → OneOf (cond a (cond b (cond c 0 23) 22) 21)
-    go true true true = accepted refl
-    go true true false = axes refl
-    go true false c = charmap refl
-    go false b c = directory refl
+    go : (a l b c : Bool) → OneOf (cond a (cond l 31 (cond b (cond c 0 23) 22)) 21)
+    go true true b c = damage refl
+    go true false true true = accepted refl
+    go true false true false = axes refl
+    go true false false c = charmap refl
+    go false l b c = directory refl
 
 not-30 : (font : List ℕ) (start : ℕ) → refusalAt font start ≡ 30 → ⊥
 unfolding refusalAt
-not-30 font start = go (directoryFits font start) (hasIndex (charmapIndex font start)) (leb (axisCount (fvarOf font start)) 16)
+not-30 font start = go (directoryFits font start) (losesNeeded font start) (hasIndex (charmapIndex font start)) (leb (axisCount (fvarOf font start)) 16)
   where
-    go : (a b c : Bool) → _≡_ {A = ℕ} (cond a (cond b (cond c 0 23) 22) 21) 30 → ⊥
-    go true true true z = omega arith
-    go true true false z = omega arith
-    go true false c z = omega arith
-    go false b c z = omega arith
+    go : (a l b c : Bool) → _≡_ {A = ℕ} (cond a (cond l 31 (cond b (cond c 0 23) 22)) 21) 30 → ⊥
+    go true true b c z = omega arith
+    go true false true true z = omega arith
+    go true false true false z = omega arith
+    go true false false c z = omega arith
+    go false l b c z = omega arith
 
 pub refusal-one-of : (font : List ℕ) (n : ℕ) → OneOf (fontRefusal font n)
 unfolding fontRefusal
@@ -72,6 +75,7 @@ below-not-30 font n l z = go (headerFits font) (at-one-of font (fontStart font n
     go true (charmap e) z = omega arith
     go true (axes e) z = omega arith
     go true (number e) z = not-30 font (fontStart font n) e
+    go true (damage e) z = omega arith
     go false o z = omega arith
 
 -- one that is not refused has its header, and its number is below the count
@@ -89,20 +93,38 @@ taken font n = go (headerFits font) (ltb n (fontCount font)) refl refl
     go true false e h z = absurd (omega arith)
     go false b e h z = absurd (omega arith)
 
-few-at : (font : List ℕ) (start : ℕ) → refusalAt font start ≡ 0 → axisCount (fvarOf font start) ≤ 16
+-- what is known of a directory whose font is not refused
+pub record Sound (font : List ℕ) (start : ℕ) : Type 0 where
+  pub fits : directoryFits font start ≡ true
+  pub kept : losesNeeded font start ≡ false
+  pub few : axisCount (fvarOf font start) ≤ 16
+
+pub sound : (font : List ℕ) (start : ℕ) → refusalAt font start ≡ 0 → Sound font start
 unfolding refusalAt
-few-at font start = go (directoryFits font start) (hasIndex (charmapIndex font start)) (leb (axisCount (fvarOf font start)) 16) refl
+sound font start = go (directoryFits font start) (losesNeeded font start) (hasIndex (charmapIndex font start)) (leb (axisCount (fvarOf font start)) 16) refl refl refl
   where
-    go : (a b c : Bool) → leb (axisCount (fvarOf font start)) 16 ≡ c → _≡_ {A = ℕ} (cond a (cond b (cond c 0 23) 22) 21) 0
-        → axisCount (fvarOf font start) ≤ 16
-    go true true true e z = leb-true (axisCount (fvarOf font start)) 16 e
-    go true true false e z = absurd (omega arith)
-    go true false c e z = absurd (omega arith)
-    go false b c e z = absurd (omega arith)
+    go : (a l b c : Bool) → directoryFits font start ≡ a → losesNeeded font start ≡ l → leb (axisCount (fvarOf font start)) 16 ≡ c
+        → _≡_ {A = ℕ} (cond a (cond l 31 (cond b (cond c 0 23) 22)) 21) 0
+        → Sound font start
+    go true true b c d k e z = absurd (omega arith)
+    go true false true true d k e z = record { fits = d; kept = k; few = leb-true (axisCount (fvarOf font start)) 16 e }
+    go true false true false d k e z = absurd (omega arith)
+    go true false false c d k e z = absurd (omega arith)
+    go false l b c d k e z = absurd (omega arith)
 
 -- a font that is not refused states at most 16 axes
 pub few-stated : (font : List ℕ) (n : ℕ) → fontRefusal font n ≡ 0 → axisCount (fvarOf font (fontStart font n)) ≤ 16
-few-stated font n z = few-at font (fontStart font n) (taken font n z .at-start)
+few-stated font n z = sound font (fontStart font n) (taken font n z .at-start) .few
+
+-- so that their number, however it was read, is at most 16
+pub few-read : (font : List ℕ) (n start count : ℕ) (fvar : List ℕ) → fontRefusal font n ≡ 0 → start ≡ fontStart font n → fvar ≡ tableData font start 0x66766172 16
+    → count ≡ axisCount fvar → count ≤ 16
+unfolding fvarOf
+few-read font n start count fvar z s f e = rw (e, f, s) (few-stated font n z)
+
+-- and its directory fits
+pub fits-stated : (font : List ℕ) (n : ℕ) → fontRefusal font n ≡ 0 → directoryFits font (fontStart font n) ≡ true
+fits-stated font n z = sound font (fontStart font n) (taken font n z .at-start) .fits
 
 -- ---- the face
 
@@ -128,8 +150,9 @@ each-face P font n e h = go (refusal-one-of font n)
     go (charmap z) = refused (λ r. omega arith)
     go (axes z) = refused (λ r. omega arith)
     go (number z) = refused (λ r. omega arith)
+    go (damage z) = refused (λ r. omega arith)
 
-pub attributes-of-face : (font : List ℕ) (n : ℕ) → fontRefusal font n ≡ 0 → readAttributes font (fontStart font n) ≡ fromFontRef font n .font .attributes
+pub attributes-of-face : (font : List ℕ) (n : ℕ) → fontRefusal font n ≡ 0 → fromTables font (fontStart font n) ≡ fromFontRef font n .font .attributes
 unfolding faceOf
 attributes-of-face font n z = ap (λ (f : FontInfo). f .attributes) (sym (accepted-face font n z))
 

@@ -1,8 +1,8 @@
 -- Section 2 a second time, over any reading of fields: `r16` and `r32` give a field's number where it lies whole in the bytes, and anything where it does not.
--- A field can be read here by these two alone, and an absent table has no bytes to read. `AnyReading.antt` shows that each such reading gives
--- what the definitions give: an absent table and an unreadable field are never taken for data.
+-- A field can be read here by these two alone, and a table that is not found has no bytes to read. `AnyReading.antt` shows that each such reading gives
+-- what the definitions give: an absent or damaged table and an unreadable field are never taken for data.
 use Prim.Native.Nat.{ℕ, _+_, _*_}
-use mathlib.Core.Bool.{Bool, false, _&&_, cond}
+use mathlib.Core.Bool.{Bool, true, false, not, _&&_, cond}
 use mathlib.Core.List.{List}
 use lib.ListN.{length, take, drop}
 use lib.Dec.{leb, ltb, eqb}
@@ -16,7 +16,7 @@ use Rattle.font.specs.declared.font.AxisInfo.{AxisInfo}
 use Rattle.font.specs.declared.font.Checked.{Checked}
 use Rattle.font.specs.declared.font.FontInfo.{FontInfo}
 use Rattle.font.specs.declared.tables.Table.{Table}
-use Rattle.font.specs.declared.tables.Table.the-variants.{Absent, Found}
+use Rattle.font.specs.declared.tables.Table.the-variants.{Absent, Damaged, Found}
 use Rattle.font.specs.First.{first, some, leastBelow, firstLeast, tabulate}
 use Rattle.font.specs.Single.{single, fixedToSingle}
 use Rattle.font.specs.Attributes.{attributesOf, defaultAttributes}
@@ -31,6 +31,12 @@ Fields = List ℕ → ℕ → ℕ
 -- the bytes of a table that was found
 abbrev pub bytesAt : List ℕ → ℕ → ℕ → List ℕ
 bytesAt font offset len = take len (drop offset font)
+
+-- whether lookup answers "damaged"
+unfoldable pub lost : Table → Bool
+lost Absent = false
+lost Damaged = true
+lost (Found offset len) = false
 
 module _ (r16 r32 : Fields) where
   -- ---- the fonts of a file, whose header is there
@@ -52,7 +58,7 @@ module _ (r16 r32 : Fields) where
   tableBy font start least i =
       cond (leb least (r32 font (start + 24 + 16 * i)) && leb (r32 font (start + 20 + 16 * i) + r32 font (start + 24 + 16 * i)) (length font))
       (Found (r32 font (start + 20 + 16 * i)) (r32 font (start + 24 + 16 * i)))
-      Absent
+      Damaged
 
   unfoldable pub findBy : List ℕ → ℕ → ℕ → ℕ → Table
   findBy font start tag least =
@@ -61,6 +67,7 @@ module _ (r16 r32 : Fields) where
   -- ---- attributes
   unfoldable pub angleBy : List ℕ → Table → Angle
   angleBy font Absent = Unstated
+  angleBy font Damaged = Unstated
   angleBy font (Found offset len) = Degrees (fixedToSingle (r32 (bytesAt font offset len) 4))
 
   unfoldable pub os2By : List ℕ → Angle → Attributes
@@ -73,14 +80,31 @@ module _ (r16 r32 : Fields) where
   unfoldable pub headBy : List ℕ → Attributes
   headBy head = attributesOf (single 1) (headStyle (r16 head 44)) (headWeight (r16 head 44))
 
+  unfoldable pub withoutBy : List ℕ → Table → Attributes
+  withoutBy font (Found offset len) = headBy (bytesAt font offset len)
+  withoutBy font Damaged = defaultAttributes
+  withoutBy font Absent = defaultAttributes
+
   -- from OS/2, `post` and `head`
   unfoldable pub statedBy : List ℕ → Table → Table → Table → Attributes
   statedBy font (Found offset len) post head = os2By (bytesAt font offset len) (angleBy font post)
-  statedBy font Absent post (Found offset len) = headBy (bytesAt font offset len)
-  statedBy font Absent post Absent = defaultAttributes
+  statedBy font Damaged post head = withoutBy font head
+  statedBy font Absent post head = withoutBy font head
 
   unfoldable pub attributesBy : List ℕ → ℕ → Attributes
   attributesBy font start = statedBy font (findBy font start 0x4F532F32 78) (findBy font start 0x706F7374 32) (findBy font start 0x68656164 54)
+
+  -- whether a table that they need is damaged
+  unfoldable pub needsPostBy : List ℕ → Bool
+  needsPostBy os2 = not (bit 0 (r16 os2 62)) && bit 9 (r16 os2 62)
+
+  unfoldable pub neededBy : List ℕ → Table → Table → Table → Bool
+  neededBy font Absent post head = lost head
+  neededBy font Damaged post head = true
+  neededBy font (Found offset len) post head = needsPostBy (bytesAt font offset len) && lost post
+
+  unfoldable pub losesBy : List ℕ → ℕ → Bool
+  losesBy font start = neededBy font (findBy font start 0x4F532F32 78) (findBy font start 0x706F7374 32) (findBy font start 0x68656164 54)
 
   -- ---- axes
   unfoldable pub countInBy : List ℕ → ℕ
@@ -88,6 +112,7 @@ module _ (r16 r32 : Fields) where
 
   unfoldable pub axisCountBy : List ℕ → Table → ℕ
   axisCountBy font Absent = 0
+  axisCountBy font Damaged = 0
   axisCountBy font (Found offset len) = countInBy (bytesAt font offset len)
 
   unfoldable pub axisBy : List ℕ → ℕ → AxisInfo
@@ -101,11 +126,13 @@ module _ (r16 r32 : Fields) where
 
   unfoldable pub axesBy : List ℕ → Table → List AxisInfo
   axesBy font Absent = tabulate (λ i. noAxis) 16
+  axesBy font Damaged = tabulate (λ i. noAxis) 16
   axesBy font (Found offset len) =
       tabulate (λ i. cond (ltb i (countInBy (bytesAt font offset len))) (axisBy (bytesAt font offset len) i) noAxis) 16
 
   unfoldable pub statesBy : List ℕ → ℕ → Table → Bool
   statesBy font tag Absent = false
+  statesBy font tag Damaged = false
   statesBy font tag (Found offset len) =
       ltb (first (λ i. eqb (axisBy (bytesAt font offset len) i .tag) tag) (countInBy (bytesAt font offset len))) (countInBy (bytesAt font offset len))
 
@@ -132,15 +159,17 @@ module _ (r16 r32 : Fields) where
 
   unfoldable pub indexBy : List ℕ → Table → Charmap
   indexBy font Absent = Missing
+  indexBy font Damaged = Missing
   indexBy font (Found offset len) = indexInBy offset (bytesAt font offset len)
 
   -- ---- the refusal and the face
   unfoldable pub refusalAtBy : List ℕ → ℕ → ℕ
   refusalAtBy font start =
       cond (fitsBy font start)
+      (cond (losesBy font start) 31
       (cond (hasIndex (indexBy font (findBy font start 0x636D6170 4)))
       (cond (leb (axisCountBy font (findBy font start 0x66766172 16)) 16) 0 23)
-      22)
+      22))
       21
 
   unfoldable pub refusalBy : List ℕ → ℕ → ℕ

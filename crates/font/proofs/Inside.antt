@@ -7,7 +7,7 @@ use native.Mathlib.Omega.{arith}
 use lib.ListN.{length, take, drop, length-take, length-drop}
 use lib.Dec.{eqb}
 use Rattle.font.specs.declared.tables.Table.{Table}
-use Rattle.font.specs.declared.tables.Table.the-variants.{Absent, Found}
+use Rattle.font.specs.declared.tables.Table.the-variants.{Absent, Damaged, Found}
 use Rattle.font.specs.declared.charmap.CharmapIndex.{CharmapIndex}
 use Rattle.font.specs.declared.charmap.Charmap.the-variants.{Missing, Index}
 use Rattle.font.specs.Tables.{findTable, partOf}
@@ -39,6 +39,7 @@ index-inside font start i = go (findTable font start 0x636D6170 4) refl
   where
     go : (t : Table) → findTable font start 0x636D6170 4 ≡ t → indexIn font t ≡ Index i → i .«subtable_offset» + 2 ≤ length font
     go Absent e h = absurd (let z : _≡_ {A = ℕ} 0 1 = cc in omega arith)
+    go Damaged e h = absurd (let z : _≡_ {A = ℕ} 0 1 = cc in omega arith)
     go (Found o n) e h =
         let w = within font start 0x636D6170 4 o n e in
         let long : length (take n (drop o font)) ≡ n = simp (length-take, length-drop) (omega (arith, w .inside)) in

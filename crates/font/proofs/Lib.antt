@@ -22,6 +22,7 @@ pub mod First
 pub mod Least
 pub mod Tabulated
 pub mod Lookup
+pub mod Needed
 pub mod Collections
 pub mod Records
 pub mod Inside
@@ -34,6 +35,10 @@ pub mod LookedAt
 pub mod CutTables
 pub mod Elsewhere
 pub mod SameFonts
+-- Damaged tables.
+pub mod Answers
+pub mod Damage
+pub mod Unmoved
 -- Section 3: overrides.
 pub mod Defaults
 pub mod Refusals

@@ -15,16 +15,17 @@ use Rattle.font.specs.declared.charmap.CharmapIndex.{CharmapIndex}
 use Rattle.font.specs.declared.charmap.Charmap.the-variants.{Missing, Index}
 use Rattle.font.specs.declared.font.AxisInfo.{AxisInfo}
 use Rattle.font.specs.declared.tables.Table.{Table}
-use Rattle.font.specs.declared.tables.Table.the-variants.{Absent, Found}
+use Rattle.font.specs.declared.tables.Table.the-variants.{Absent, Damaged, Found}
 use Rattle.font.specs.First.{first, some}
 use Rattle.font.specs.Attributes.{defaultAttributes}
-use Rattle.font.specs.Tables.{u16At, u32At, directoryFits, findTable, partOf, tableData}
+use Rattle.font.specs.Tables.{u16At, u32At, directoryFits, findTable, partOf, tableData, Handed, no-table, damaged-table, found-table, handOut, handedTable, bytesOf, isDamaged}
 use Rattle.font.specs.Collection.{fontStart}
 use Rattle.font.specs.Charmap.{subtableOffset, pairClass, qualifies, recordClass, someQualifies, bestClass, bestRecord, indexOf, indexIn, charmapIndex}
-use Rattle.font.specs.Reading.{present, postAngle, os2Style, fromOs2Post, fromHead, readAttributes}
+use Rattle.font.specs.Reading.{present, postAngle, os2Style, fromOs2Post, fromHead, fromTables, needsPost, neededDamaged, losesNeeded, readAttributes}
 use Rattle.font.specs.Font.{fvarOf, axisCount, axisAt, noAxis, axesOf, hasIndex, indexOr, noIndex, refusalAt, fontRefusal, faceOf, emptyFont, checkedBy, fromFontRef, statesAxis}
-use Rattle.font.specs.LookedAt.{Agree, Alike, absent, found, AxesAlike, no-axes, with-axes, Keeps, RecordsAlike, SameTables, OfRecord, SameIndex, missing, of-record, SameReading, subtableAt}
+use Rattle.font.specs.LookedAt.{Agree, Alike, absent, damaged, found, AxesAlike, no-axes, with-axes, Keeps, RecordsAlike, SameTables, OfRecord, SameIndex, missing, of-record, SameReading, subtableAt}
 use Rattle.font.proofs.First.{first-same}
+use Rattle.font.proofs.Lookup.{handed-bytes}
 use Rattle.font.proofs.Least.{Kept, least-same, first-least-same}
 use Rattle.font.proofs.Tabulated.{same}
 use Rattle.font.proofs.Records.{has-class, best-qualifies, best-low, best-stated, best-qualified, font-has}
@@ -54,12 +55,14 @@ module _ {n : ℕ} {s t : List ℕ} (a : Agree n s t) where
 unfoldable pub statedIn : List ℕ → List ℕ → List ℕ → Attributes
 statedIn os2 post head = cond (present os2) (fromOs2Post os2 post) (cond (present head) (fromHead head) defaultAttributes)
 
-angle-same : {s t : List ℕ} → Alike 32 s t → postAngle s ≡ postAngle t
-unfolding postAngle
-angle-same (absent e h) = cc
+angle-same : {s t : Handed} → Alike 32 s t → postAngle (bytesOf s) ≡ postAngle (bytesOf t)
+unfolding postAngle bytesOf
+angle-same absent = refl
+angle-same damaged = refl
 angle-same (found a) = let p = both-present a (omega arith) in rw (p .0, p .1, field32 a 4 (omega arith))
 
-os2-same : {os2 os2' post post' : List ℕ} → Agree 78 os2 os2' → Alike 32 post post' → fromOs2Post os2 post ≡ fromOs2Post os2' post'
+os2-same : {os2 os2' : List ℕ} {post post' : Handed} → Agree 78 os2 os2' → Alike 32 post post'
+    → fromOs2Post os2 (bytesOf post) ≡ fromOs2Post os2' (bytesOf post')
 unfolding fromOs2Post os2Style
 os2-same a p = rw (field16 a 4 (omega arith), field16 a 6 (omega arith), field16 a 62 (omega arith), angle-same p)
 
@@ -67,16 +70,33 @@ head-same : {s t : List ℕ} → Agree 54 s t → fromHead s ≡ fromHead t
 unfolding fromHead
 head-same a = rw (field16 a 44 (omega arith))
 
-without-os2 : {head head' : List ℕ} → Alike 54 head head'
-    → cond (present head) (fromHead head) defaultAttributes ≡ cond (present head') (fromHead head') defaultAttributes
-without-os2 (absent e h) = cc
+without-os2 : {head head' : Handed} → Alike 54 head head'
+    → cond (present (bytesOf head)) (fromHead (bytesOf head)) defaultAttributes
+    ≡ cond (present (bytesOf head')) (fromHead (bytesOf head')) defaultAttributes
+unfolding bytesOf
+without-os2 absent = refl
+without-os2 damaged = refl
 without-os2 (found a) = let p = both-present a (omega arith) in rw (p .0, p .1, head-same a)
 
-pub stated-same : {os2 os2' post post' head head' : List ℕ} → Alike 78 os2 os2' → Alike 32 post post' → Alike 54 head head'
-    → statedIn os2 post head ≡ statedIn os2' post' head'
-unfolding statedIn present
+pub stated-same : {os2 os2' post post' head head' : Handed} → Alike 78 os2 os2' → Alike 32 post post' → Alike 54 head head'
+    → statedIn (bytesOf os2) (bytesOf post) (bytesOf head) ≡ statedIn (bytesOf os2') (bytesOf post') (bytesOf head')
+unfolding statedIn present bytesOf
 stated-same (found a) p h = let q = both-present a (omega arith) in rw (q .0, q .1, os2-same a p)
-stated-same (absent e g) p h = rw (e, g) (without-os2 h)
+stated-same damaged p h = without-os2 h
+stated-same absent p h = without-os2 h
+
+lost-same : {n : ℕ} {s t : Handed} → Alike n s t → isDamaged s ≡ isDamaged t
+unfolding isDamaged
+lost-same absent = refl
+lost-same damaged = refl
+lost-same (found a) = refl
+
+needed-same : {os2 os2' post post' head head' : Handed} → Alike 78 os2 os2' → Alike 32 post post' → Alike 54 head head'
+    → neededDamaged os2 head post ≡ neededDamaged os2' head' post'
+unfolding neededDamaged needsPost
+needed-same (found a) p h = rw (field16 a 62 (omega arith), lost-same p)
+needed-same damaged p h = refl
+needed-same absent p h = lost-same h
 
 -- ---- axes
 
@@ -87,6 +107,10 @@ count-at-most fvar = go (present fvar && (eqb (u16At fvar 10) 20 && leb (u16At f
     go : (b : Bool) → cond b (u16At fvar 8) 0 ≤ u16At fvar 8
     go true = omega arith
     go false = omega arith
+
+-- so a table that states at most 16 has no refusal
+pub few-stated-fvar : {fvar s : List ℕ} {n : ℕ} → fvar ≡ s → n ≡ u16At fvar 8 → n ≤ 16 → _≡_ {A = ℕ} 0 (cond (leb (axisCount s) 16) 0 23)
+few-stated-fvar {fvar} e f l = rw (← e, le-leb (axisCount fvar) 16 (omega (arith, count-at-most fvar)))
 
 module _ {n : ℕ} {s t : List ℕ} (header : 16 ≤ n) (records : u16At s 4 + 20 * u16At s 8 ≤ n) (a : Agree n s t) where
   found-count : axisCount s ≡ axisCount t
@@ -174,6 +198,7 @@ index-of-best font start = go (findTable font start 0x636D6170 4) refl
     go : (t : Table) → findTable font start 0x636D6170 4 ≡ t → someQualifies (partOf font t) ≡ true
         → OfRecord font start (bestRecord (tableData font start 0x636D6170 4)) (eqb (bestClass (tableData font start 0x636D6170 4)) 2) (eqb (bestClass (tableData font start 0x636D6170 4)) 3)
     go Absent e q = absurd (let z : _≡_ {A = ℕ} 0 1 = cc in omega arith)
+    go Damaged e q = absurd (let z : _≡_ {A = ℕ} 0 1 = cc in omega arith)
     go (Found offset len) e q = record { offset = offset; len = len; lies = e; stated = rw e (best-stated (partOf font (Found offset len)) q); qualified = rw e (best-qualified (partOf font (Found offset len)) q); index = rw (e, q) }
 
 pub index-same : (f : List ℕ) (a : ℕ) (g : List ℕ) (b : ℕ) → RecordsAlike (tableData f a 0x636D6170 4) (tableData g b 0x636D6170 4) → SameIndex f a g b
@@ -187,17 +212,35 @@ index-same f a g b h = go (someQualifies (tableData f a 0x636D6170 4)) refl
 
 -- ---- the file
 
-pub read-alike : (f : List ℕ) (a : ℕ) (g : List ℕ) (b : ℕ) → directoryFits f a ≡ directoryFits g b → SameTables (tableData f a) (tableData g b) → SameReading f a g b
-unfolding readAttributes statedIn fvarOf statesAxis refusalAt
-read-alike f a g b fits h =
-    record {
-      attributes = stated-same (h .os2) (h .post) (h .head);
-      axis-count = count-same (h .fvar);
-      axes = axes-same (h .fvar);
-      states = λ tag. axis-stated-same tag (h .fvar);
-      refusal = rw (fits, font-has f a, font-has g b, some-qualifies-same (h .cmap), count-same (h .fvar));
-      index = index-same f a g b (h .cmap);
-    }
+module _ (f : List ℕ) (a : ℕ) (g : List ℕ) (b : ℕ) (h : SameTables (handedTable f a) (handedTable g b)) where
+  tables-same : fromTables f a ≡ fromTables g b
+  unfolding fromTables statedIn
+  tables-same =
+      rw (← handed-bytes f a 0x4F532F32 78, ← handed-bytes f a 0x706F7374 32, ← handed-bytes f a 0x68656164 54, ← handed-bytes g b 0x4F532F32 78, ← handed-bytes g b 0x706F7374 32, ← handed-bytes g b 0x68656164 54)
+      (stated-same (h .os2) (h .post) (h .head))
+
+  loses-same : losesNeeded f a ≡ losesNeeded g b
+  unfolding losesNeeded
+  loses-same = needed-same (h .os2) (h .post) (h .head)
+
+  axes-alike : AxesAlike (tableData f a 0x66766172 16) (tableData g b 0x66766172 16)
+  axes-alike = rw (← handed-bytes f a 0x66766172 16, ← handed-bytes g b 0x66766172 16) (h .fvar)
+
+  records-alike : RecordsAlike (tableData f a 0x636D6170 4) (tableData g b 0x636D6170 4)
+  records-alike = rw (← handed-bytes f a 0x636D6170 4, ← handed-bytes g b 0x636D6170 4) (h .cmap)
+
+  pub read-alike : directoryFits f a ≡ directoryFits g b → SameReading f a g b
+  unfolding readAttributes fvarOf statesAxis refusalAt
+  read-alike fits =
+      record {
+        attributes = rw (loses-same, tables-same);
+        from-tables = tables-same;
+        axis-count = count-same axes-alike;
+        axes = axes-same axes-alike;
+        states = λ tag. axis-stated-same tag axes-alike;
+        refusal = rw (fits, loses-same, font-has f a, font-has g b, some-qualifies-same records-alike, count-same axes-alike);
+        index = index-same f a g b records-alike;
+      }
 
 -- ---- where the subtable lies
 
@@ -253,7 +296,7 @@ at-same f a g b h r = go (eqb r 0)
 
     go : (z : Bool)
         → cond z (faceOf f a) emptyFont ≡ subtableAt (cond z (faceOf f a) emptyFont .«charmap_index» .«subtable_offset») (cond z (faceOf g b) emptyFont)
-    go true = rw (h .attributes, h .axes, h .axis-count, at-index (h .index))
+    go true = rw (h .from-tables, h .axes, h .axis-count, at-index (h .index))
     go false = refl
 
 -- so are those of the fonts m of f and n of g, where the two are refused alike

@@ -6,9 +6,10 @@ use mathlib.Core.List.{List}
 use native.Mathlib.Omega.{arith}
 use lib.Dec.{leb}
 use Rattle.font.specs.declared.tables.Table.{Table}
-use Rattle.font.specs.declared.tables.Table.the-variants.{Absent, Found}
+use Rattle.font.specs.declared.tables.Table.the-variants.{Absent, Damaged, Found}
 use Rattle.font.specs.Tables.{u16At, directoryFits, findTable, partOf}
 use Rattle.font.specs.Charmap.{qualifies, someQualifies, indexIn, charmapIndex, NoneQualifies}
+use Rattle.font.specs.Reading.{losesNeeded}
 use Rattle.font.specs.Font.{fvarOf, axisCount, hasIndex, refusalAt}
 use Rattle.font.proofs.First.{some-fails, all-fail}
 use Rattle.font.proofs.Records.{table-has}
@@ -26,22 +27,28 @@ none-missing font start h = go (findTable font start 0x636D6170 4) refl
   where
     go : (t : Table) → findTable font start 0x636D6170 4 ≡ t → hasIndex (indexIn font t) ≡ false
     go Absent e = refl
+    go Damaged e = refl
     go (Found offset len) e =
         let cmap = partOf font (Found offset len) in
         table-has offset cmap ∙ some-fails (qualifies cmap) (u16At cmap 2) (h offset len e)
 
--- 22 comes after 21 and before 23
-pub refused-22 : (font : List ℕ) (start : ℕ) → refusalAt font start ≡ 22 → (directoryFits font start ≡ true) × NoneQualifies font start
+-- 22 comes after 21 and 31 and before 23
+pub refused-22 : (font : List ℕ) (start : ℕ) → refusalAt font start ≡ 22
+    → (directoryFits font start ≡ true) × (losesNeeded font start ≡ false) × NoneQualifies font start
 unfolding refusalAt
-refused-22 font start z = go (directoryFits font start) (hasIndex (charmapIndex font start)) (leb (axisCount (fvarOf font start)) 16) refl refl z
+refused-22 font start z =
+    go (directoryFits font start) (losesNeeded font start) (hasIndex (charmapIndex font start)) (leb (axisCount (fvarOf font start)) 16) refl refl refl z
   where
-    go : (a b c : Bool) → directoryFits font start ≡ a → hasIndex (charmapIndex font start) ≡ b → _≡_ {A = ℕ} (cond a (cond b (cond c 0 23) 22) 21) 22
-        → (directoryFits font start ≡ true) × NoneQualifies font start
-    go true false c d e z = (d, missing font start e)
-    go true true true d e z = absurd (omega arith)
-    go true true false d e z = absurd (omega arith)
-    go false b c d e z = absurd (omega arith)
+    go : (a l b c : Bool) → directoryFits font start ≡ a → losesNeeded font start ≡ l → hasIndex (charmapIndex font start) ≡ b
+        → _≡_ {A = ℕ} (cond a (cond l 31 (cond b (cond c 0 23) 22)) 21) 22
+        → (directoryFits font start ≡ true) × (losesNeeded font start ≡ false) × NoneQualifies font start
+    go true false false c d k e z = (d, k, missing font start e)
+    go true true b c d k e z = absurd (omega arith)
+    go true false true true d k e z = absurd (omega arith)
+    go true false true false d k e z = absurd (omega arith)
+    go false l b c d k e z = absurd (omega arith)
 
-pub gives-22 : (font : List ℕ) (start : ℕ) → directoryFits font start ≡ true → NoneQualifies font start → refusalAt font start ≡ 22
+pub gives-22 : (font : List ℕ) (start : ℕ) → directoryFits font start ≡ true → losesNeeded font start ≡ false → NoneQualifies font start
+    → refusalAt font start ≡ 22
 unfolding refusalAt
-gives-22 font start d h = rw (d, none-missing font start h)
+gives-22 font start d k h = rw (d, k, none-missing font start h)

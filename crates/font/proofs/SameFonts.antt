@@ -11,16 +11,16 @@ use Rattle.font.specs.declared.charmap.Charmap.the-variants.{Missing, In
 use Rattle.font.specs.declared.charmap.CharmapIndex.{CharmapIndex}
 use Rattle.font.specs.declared.font.FontInfo.{FontInfo}
 use Rattle.font.specs.First.{first, some, leastBelow, firstLeast}
-use Rattle.font.specs.Tables.{u16At, u32At, startsAsFont, recordCount, recordTag, recordOffset, recordLength, directoryFits, firstRecord, tableOfRecord, findTable, partOf, tableData}
+use Rattle.font.specs.Tables.{u16At, u32At, startsAsFont, recordCount, recordTag, recordOffset, recordLength, directoryFits, firstRecord, tableOfRecord, findTable, partOf, tableData, handOut, handedTable, bytesOf, isDamaged}
 use Rattle.font.specs.Collection.{isCollection, headerFits, fontCount, offsetsFit, offsetOf, fontStart}
 use Rattle.font.specs.Charmap.{isPair, classOf, subtableOffset, liesIn, pairClass, qualifies, recordClass, someQualifies, bestClass, bestRecord, indexOf, indexIn, charmapIndex}
-use Rattle.font.specs.Reading.{present}
+use Rattle.font.specs.Reading.{present, neededDamaged, losesNeeded}
 use Rattle.font.specs.Font.{fvarOf, axisCount, hasIndex, indexOr, refusalAt, fontRefusal, faceOf, fromFontRef}
 use Rattle.font.specs.LookedAt.{Five, os2, post, head, fvar, cmap, SameIndex, missing, of-record, SameReading, SameFont, MovedWithCmap, ReadAlike}
-use Rattle.font.proofs.Lookup.{past-file, records-inside}
+use Rattle.font.proofs.Lookup.{past-file, records-inside, handed-bytes}
 use Rattle.font.proofs.FaceOf.{refused-at, taken, accepted-face}
 use Rattle.font.proofs.LookedAt.{face-same}
-use Rattle.font.proofs.CutTables.{read-equal}
+use Rattle.font.proofs.CutTables.{all-equal, read-equal}
 
 -- ---- where a font's directory fits, the file has its header and a font of that number
 module _ (f : List ℕ) (m : ℕ) (fits : directoryFits f (fontStart f m) ≡ true) where
@@ -46,11 +46,12 @@ module _ (f : List ℕ) (m : ℕ) (fits : directoryFits f (fontStart f m) ≡ tr
 -- a font that is not refused has an index
 has-one : (f : List ℕ) (start : ℕ) → refusalAt f start ≡ 0 → charmapIndex f start ≡ Missing → ⊥
 unfolding refusalAt hasIndex
-has-one f start z e = go (directoryFits f start) (rw e at z)
+has-one f start z e = go (directoryFits f start) (losesNeeded f start) (rw e at z)
   where
-    go : (b : Bool) → _≡_ {A = ℕ} (cond b 22 21) 0 → ⊥
-    go true h = omega arith
-    go false h = omega arith
+    go : (b l : Bool) → _≡_ {A = ℕ} (cond b (cond l 31 22) 21) 0 → ⊥
+    go true true h = omega arith
+    go true false h = omega arith
+    go false l h = omega arith
 
 index-of-face : (f : List ℕ) (m : ℕ) → fontRefusal f m ≡ 0 → (c : CharmapIndex) → charmapIndex f (fontStart f m) ≡ Index c
     → fromFontRef f m .font .«charmap_index» ≡ c
@@ -58,6 +59,10 @@ unfolding faceOf indexOr
 index-of-face f m z c e = ap (λ (x : FontInfo). x .«charmap_index») (accepted-face f m z) ∙ rw e
 
 module _ (f : List ℕ) (m : ℕ) (g : List ℕ) (n : ℕ) (same : SameFont f m g n) where
+  cmap-same : tableData f (fontStart f m) 0x636D6170 4 ≡ tableData g (fontStart g n) 0x636D6170 4
+  cmap-same =
+      sym (handed-bytes f (fontStart f m) 0x636D6170 4) ∙ same .tables .cmap ∙ handed-bytes g (fontStart g n) 0x636D6170 4
+
   reading : SameReading f (fontStart f m) g (fontStart g n)
   reading = read-equal f (fontStart f m) g (fontStart g n) (same .first-fits ∙ sym (same .second-fits)) (same .tables)
 
@@ -86,7 +91,7 @@ module _ (f : List ℕ) (m : ℕ) (g : List ℕ) (n : ℕ) (same : SameFont f m 
               arith,
               ap at (index-of-face f m z _ (x .index)),
               ap at (index-of-face g n (sym refusal ∙ z) _ (y .index)),
-              ap (λ (t : List ℕ). subtableOffset t i) (same .tables 0x636D6170 4 cmap),
+              ap (λ (t : List ℕ). subtableOffset t i) cmap-same,
             );
           }
 
@@ -120,10 +125,10 @@ pub record Example : Type 0 where
   pub in-lone : charmapIndex lone (fontStart lone 0) ≡ Index (record { «subtable_offset» = 40; «is_symbol» = false; «is_mac_roman» = false })
 
 pub example : Example
-unfolding collection lone subtables directory isCollection headerFits fontCount offsetsFit offsetOf fontStart fontRefusal refusalAt directoryFits startsAsFont recordCount recordTag recordOffset recordLength firstRecord first tableOfRecord findTable partOf tableData u16At u32At hasIndex charmapIndex indexIn indexOf someQualifies some qualifies liesIn pairClass classOf isPair subtableOffset bestRecord bestClass recordClass leastBelow firstLeast fvarOf axisCount present
-example = record { same = record { first-fits = refl; second-fits = refl; tables = λ tag least t. each t }; taken = refl; in-collection = refl; in-lone = refl }
+unfolding collection lone subtables directory isCollection headerFits fontCount offsetsFit offsetOf fontStart fontRefusal refusalAt directoryFits startsAsFont recordCount recordTag recordOffset recordLength firstRecord first tableOfRecord findTable partOf tableData handOut handedTable isDamaged neededDamaged losesNeeded u16At u32At hasIndex charmapIndex indexIn indexOf someQualifies some qualifies liesIn pairClass classOf isPair subtableOffset bestRecord bestClass recordClass leastBelow firstLeast fvarOf axisCount present
+example = record { same = record { first-fits = refl; second-fits = refl; tables = all-equal _ _ (λ tag least t. each t) }; taken = refl; in-collection = refl; in-lone = refl }
   where
-    each : {tag least : ℕ} → Five tag least → tableData collection (fontStart collection 1) tag least ≡ tableData lone (fontStart lone 0) tag least
+    each : {tag least : ℕ} → Five tag least → handedTable collection (fontStart collection 1) tag least ≡ handedTable lone (fontStart lone 0) tag least
     each os2 = refl
     each post = refl
     each head = refl

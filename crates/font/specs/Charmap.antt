@@ -6,7 +6,7 @@ use mathlib.Core.List.{List}
 use lib.ListN.{length}
 use lib.Dec.{leb, ltb, eqb}
 use Rattle.font.specs.declared.tables.Table.{Table}
-use Rattle.font.specs.declared.tables.Table.the-variants.{Absent, Found}
+use Rattle.font.specs.declared.tables.Table.the-variants.{Absent, Damaged, Found}
 use Rattle.font.specs.declared.charmap.Charmap.{Charmap}
 use Rattle.font.specs.declared.charmap.Charmap.the-variants.{Missing, Index}
 use Rattle.font.specs.First.{some, leastBelow, firstLeast}
@@ -69,9 +69,10 @@ indexOf offset cmap =
 
 unfoldable pub indexIn : List ℕ → Table → Charmap
 indexIn file Absent = Missing
+indexIn file Damaged = Missing
 indexIn file (Found offset len) = indexOf offset (partOf file (Found offset len))
 
--- `cmap`, at least 4 bytes
+-- `cmap`, at least 4 bytes; "damaged `cmap` is still 22"
 unfoldable pub charmapIndex : List ℕ → ℕ → Charmap
 charmapIndex file start = indexIn file (findTable file start 0x636D6170 4)
 

@@ -17,9 +17,9 @@ use Rattle.font.specs.Attributes.{defaultAttributes}
 use Rattle.font.specs.Tables.{u16At, u32At, tableData, directoryFits}
 use Rattle.font.specs.Collection.{headerFits, fontCount, fontStart}
 use Rattle.font.specs.Charmap.{charmapIndex}
-use Rattle.font.specs.Reading.{present, readAttributes}
+use Rattle.font.specs.Reading.{present, fromTables, losesNeeded}
 
--- "`fvar`, at least 16 bytes"
+-- "`fvar`, at least 16 bytes"; "Damaged `fvar` still gives no axes"
 unfoldable pub fvarOf : List ℕ → ℕ → List ℕ
 fvarOf file start = tableData file start 0x66766172 16
 
@@ -60,14 +60,15 @@ unfoldable pub indexOr : CharmapIndex → Charmap → CharmapIndex
 indexOr other Missing = other
 indexOr other (Index index) = index
 
--- ---- section 6, the rows of a font: 21 "bad start or directory past file", 22 "no qualifying `cmap` record",
--- 23 "over 16 axes given by section 2"; 0 is no refusal. Of the font whose directory begins at `start`.
+-- ---- section 6, the rows of a font: 21 "bad start or directory past file", 31 "a needed table is damaged; after 21 and before 22", 22 "no qualifying `cmap`
+-- record", 23 "over 16 axes given by section 2"; 0 is no refusal. Of the font whose directory begins at `start`.
 unfoldable pub refusalAt : List ℕ → ℕ → ℕ
 refusalAt file start =
     cond (directoryFits file start)
+    (cond (losesNeeded file start) 31
     (cond (hasIndex (charmapIndex file start))
     (cond (leb (axisCount (fvarOf file start)) 16) 0 23)
-    22)
+    22))
     21
 
 -- of the font of a number. "(30 ..: the font number is not below the count; after the 12 header bytes are found .. before any other 21.)"
@@ -77,12 +78,12 @@ fontRefusal file number =
     (cond (ltb number (fontCount file)) (refusalAt file (fontStart file number)) 30)
     21
 
--- ---- the face that a font file gives
+-- ---- the face that a font file gives, where it is not refused
 
 unfoldable pub faceOf : List ℕ → ℕ → FontInfo
 faceOf file start =
     record {
-      attributes = readAttributes file start;
+      attributes = fromTables file start;
       axes = axesOf (fvarOf file start) (axisCount (fvarOf file start));
       «axis_count» = axisCount (fvarOf file start);
       «charmap_index» = indexOr noIndex (charmapIndex file start);
@@ -109,6 +110,6 @@ unfoldable pub statesAxis : List ℕ → ℕ → ℕ → Bool
 statesAxis file start tag =
     ltb (first (λ i. eqb (axisAt (fvarOf file start) i .tag) tag) (axisCount (fvarOf file start))) (axisCount (fvarOf file start))
 
--- what the choice of a face looks at
+-- what the choice of a face looks at, of a font that is not refused
 unfoldable pub statedAt : List ℕ → ℕ → ℕ → Stated
-statedAt file start tag = record { attributes = readAttributes file start; «has_axis» = statesAxis file start tag }
+statedAt file start tag = record { attributes = fromTables file start; «has_axis» = statesAxis file start tag }

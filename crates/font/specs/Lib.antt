@@ -9,6 +9,10 @@ pub mod Charmap
 pub mod Reading
 pub mod Font
 pub mod Overrides
--- As laws of these: section 3's sentence on pairs, and what section 2 looks at in a file.
+-- As laws of these: section 3's sentence on pairs, what section 2 looks at in a file, what lookup's answers mean, what is lost with a damaged
+-- table, and the reading before.
 pub mod Pairs
 pub mod LookedAt
+pub mod Answers
+pub mod Damage
+pub mod Unmoved

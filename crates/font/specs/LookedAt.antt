@@ -7,13 +7,13 @@ use lib.ListN.{length, take}
 use Rattle.font.specs.declared.tables.Table.the-variants.{Found}
 use Rattle.font.specs.declared.charmap.Charmap.the-variants.{Missing, Index}
 use Rattle.font.specs.declared.font.FontInfo.{FontInfo}
-use Rattle.font.specs.Tables.{u16At, directoryFits, findTable, tableData}
+use Rattle.font.specs.Tables.{u16At, directoryFits, findTable, tableData, Handed, no-table, damaged-table, found-table, handedTable, bytesOf}
 use Rattle.font.specs.Collection.{fontStart}
 use Rattle.font.specs.Charmap.{subtableOffset, liesIn, pairClass, qualifies, charmapIndex}
-use Rattle.font.specs.Reading.{readAttributes}
+use Rattle.font.specs.Reading.{fromTables, readAttributes}
 use Rattle.font.specs.Font.{fvarOf, axisCount, axesOf, refusalAt, fontRefusal, fromFontRef, statesAxis}
 
--- ---- tables that are alike; an absent one is handed out as no bytes
+-- ---- tables that are alike
 
 -- both have n bytes, and their first n are the same
 pub record Agree (n : ℕ) (s t : List ℕ) : Type 0 where
@@ -21,10 +21,11 @@ pub record Agree (n : ℕ) (s t : List ℕ) : Type 0 where
   pub in-second : n ≤ length t
   pub same : take n s ≡ take n t
 
--- OS/2, `post` and `head`: "at least" so many bytes, and of these alone a field is read
-pub data Alike (n : ℕ) (s t : List ℕ) : Type 0 where
-  absent : s ≡ [] → t ≡ [] → Alike n s t
-  found : Agree n s t → Alike n s t
+-- OS/2, `post` and `head`: absent, damaged or found in both, with "at least" so many bytes, and of these alone a field is read
+pub data Alike (n : ℕ) : Handed → Handed → Type 0 where
+  absent : Alike n no-table no-table
+  damaged : Alike n damaged-table damaged-table
+  found : {s t : List ℕ} → Agree n s t → Alike n (found-table s) (found-table t)
 
 -- `fvar`: the 16 bytes that it has at least, and the records of its axes
 pub data AxesAlike (s t : List ℕ) : Type 0 where
@@ -42,6 +43,12 @@ pub record RecordsAlike (c d : List ℕ) : Type 0 where
   pub back : Keeps d c
 
 -- ---- tables that are cut to what is looked at
+
+-- OS/2, `post` and `head`: what is not found stays as it is
+unfoldable pub cutTo : ℕ → Handed → Handed
+cutTo n no-table = no-table
+cutTo n damaged-table = damaged-table
+cutTo n (found-table s) = found-table (take n s)
 
 -- `fvar`: to its 16 bytes and its records, or left out where it gives no axes
 pub data CutAxes (s t : List ℕ) : Type 0 where
@@ -67,25 +74,30 @@ pub data Five : ℕ → ℕ → Type 0 where
   fvar : Five 0x66766172 16
   cmap : Five 0x636D6170 4
 
--- However they are found, s and t hand out the bytes of a table by its tag and the length that it has at least. What is looked at is the same:
-pub record SameTables (s t : ℕ → ℕ → List ℕ) : Type 0 where
+-- However they are found, s and t hand out a table by its tag and the length that it has at least. What is looked at is the same; a damaged `fvar` is as none is,
+-- and so is a damaged `cmap`:
+pub record SameTables (s t : ℕ → ℕ → Handed) : Type 0 where
   pub os2 : Alike 78 (s 0x4F532F32 78) (t 0x4F532F32 78)
   pub post : Alike 32 (s 0x706F7374 32) (t 0x706F7374 32)
   pub head : Alike 54 (s 0x68656164 54) (t 0x68656164 54)
-  pub fvar : AxesAlike (s 0x66766172 16) (t 0x66766172 16)
-  pub cmap : RecordsAlike (s 0x636D6170 4) (t 0x636D6170 4)
+  pub fvar : AxesAlike (bytesOf (s 0x66766172 16)) (bytesOf (t 0x66766172 16))
+  pub cmap : RecordsAlike (bytesOf (s 0x636D6170 4)) (bytesOf (t 0x636D6170 4))
 
--- all their bytes are the same
-abbrev pub EqualTables : (ℕ → ℕ → List ℕ) → (ℕ → ℕ → List ℕ) → Type 0
-EqualTables s t = (tag least : ℕ) → Five tag least → s tag least ≡ t tag least
+-- each is absent in both, damaged in both, or found in both with the same bytes; of `fvar` and `cmap` the bytes alone count
+pub record EqualTables (s t : ℕ → ℕ → Handed) : Type 0 where
+  pub os2 : s 0x4F532F32 78 ≡ t 0x4F532F32 78
+  pub post : s 0x706F7374 32 ≡ t 0x706F7374 32
+  pub head : s 0x68656164 54 ≡ t 0x68656164 54
+  pub fvar : bytesOf (s 0x66766172 16) ≡ bytesOf (t 0x66766172 16)
+  pub cmap : bytesOf (s 0x636D6170 4) ≡ bytesOf (t 0x636D6170 4)
 
 -- those of t are cut to what is looked at in those of s
-pub record CutTables (s t : ℕ → ℕ → List ℕ) : Type 0 where
-  pub os2 : t 0x4F532F32 78 ≡ take 78 (s 0x4F532F32 78)
-  pub post : t 0x706F7374 32 ≡ take 32 (s 0x706F7374 32)
-  pub head : t 0x68656164 54 ≡ take 54 (s 0x68656164 54)
-  pub fvar : CutAxes (s 0x66766172 16) (t 0x66766172 16)
-  pub cmap : CutRecords (s 0x636D6170 4) (t 0x636D6170 4)
+pub record CutTables (s t : ℕ → ℕ → Handed) : Type 0 where
+  pub os2 : t 0x4F532F32 78 ≡ cutTo 78 (s 0x4F532F32 78)
+  pub post : t 0x706F7374 32 ≡ cutTo 32 (s 0x706F7374 32)
+  pub head : t 0x68656164 54 ≡ cutTo 54 (s 0x68656164 54)
+  pub fvar : CutAxes (bytesOf (s 0x66766172 16)) (bytesOf (t 0x66766172 16))
+  pub cmap : CutRecords (bytesOf (s 0x636D6170 4)) (bytesOf (t 0x636D6170 4))
 
 -- ---- what is read of font files, each from its directory's start on
 
@@ -111,6 +123,7 @@ pub data SameIndex (f : List ℕ) (a : ℕ) (g : List ℕ) (b : ℕ) : Type 0 wh
 
 pub record SameReading (f : List ℕ) (a : ℕ) (g : List ℕ) (b : ℕ) : Type 0 where
   pub attributes : readAttributes f a ≡ readAttributes g b
+  pub from-tables : fromTables f a ≡ fromTables g b
   pub axis-count : axisCount (fvarOf f a) ≡ axisCount (fvarOf g b)
   pub axes : axesOf (fvarOf f a) (axisCount (fvarOf f a)) ≡ axesOf (fvarOf g b) (axisCount (fvarOf g b))
   pub states : (tag : ℕ) → statesAxis f a tag ≡ statesAxis g b tag
@@ -133,11 +146,12 @@ subtableAt n face =
 
 -- ---- a font of a collection and a lone font with the same tables
 
--- The fonts m of f and n of g: both directories fit, and each of the five tables has the same bytes in both or is absent in both.
+-- The fonts m of f and n of g: both directories fit, and each of the five tables has the same bytes in both, is absent in both or damaged in both; `fvar` and `cmap`
+-- may also be absent in one and damaged in the other.
 pub record SameFont (f : List ℕ) (m : ℕ) (g : List ℕ) (n : ℕ) : Type 0 where
   pub first-fits : directoryFits f (fontStart f m) ≡ true
   pub second-fits : directoryFits g (fontStart g n) ≡ true
-  pub tables : EqualTables (tableData f (fontStart f m)) (tableData g (fontStart g n))
+  pub tables : EqualTables (handedTable f (fontStart f m)) (handedTable g (fontStart g n))
 
 -- the offset x in f and y in g differ as the places do where the `cmap` of the two fonts lies
 pub record MovedWithCmap (f : List ℕ) (m : ℕ) (g : List ℕ) (n : ℕ) (x y : ℕ) : Type 0 where

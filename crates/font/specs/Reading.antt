@@ -1,6 +1,6 @@
 -- Section 2: the attributes that a font states, from OpenType's OS/2, `post` and `head` tables.
 use Prim.Native.Nat.{ℕ, _/_, _%_, _^_}
-use mathlib.Core.Bool.{Bool, false, cond}
+use mathlib.Core.Bool.{Bool, true, false, not, _&&_, cond}
 use mathlib.Core.List.{List, [], _∷_}
 use lib.ListN.{length, getD}
 use lib.Dec.{ltb, eqb}
@@ -8,13 +8,15 @@ use lib.Ieee.{Float, binary32, round}
 use Rattle.font.specs.declared.attributes.Angle.{Angle}
 use Rattle.font.specs.declared.attributes.FontStyle.{FontStyle}
 use Rattle.font.specs.declared.attributes.Attributes.{Attributes}
+use Rattle.font.specs.declared.font.FontAttributes.{FontAttributes}
 use Rattle.font.specs.declared.attributes.Angle.the-variants.{Unstated, Degrees}
 use Rattle.font.specs.declared.attributes.FontStyle.the-variants.{Normal, Italic, Oblique}
+use Rattle.font.specs.declared.font.FontAttributes.the-variants.{Lost, Stated}
 use Rattle.font.specs.Single.{single, fixedToSingle}
 use Rattle.font.specs.Attributes.{attributesOf, defaultAttributes}
-use Rattle.font.specs.Tables.{u16At, u32At, tableData}
+use Rattle.font.specs.Tables.{u16At, u32At, tableData, Handed, no-table, damaged-table, found-table, handedTable, isDamaged}
 
--- an absent table is handed out as no bytes, in which nothing is read (`proofs/AnyReading.antt`)
+-- a table that is not found is handed out as no bytes, in which nothing is read (`proofs/AnyReading.antt`)
 unfoldable pub present : List ℕ → Bool
 present table = ltb 0 (length table)
 
@@ -54,9 +56,29 @@ headWeight macStyle = cond (bit 0 macStyle) (single 700) (single 400)
 unfoldable pub fromHead : List ℕ → Attributes
 fromHead head = attributesOf (single 1) (headStyle (u16At head 44)) (headWeight (u16At head 44))
 
--- "OS/2, at least 78 bytes .. Without OS/2, `head` (54 bytes) .. Without both: defaults."
-unfoldable pub readAttributes : List ℕ → ℕ → Attributes
-readAttributes file start =
+-- "OS/2, at least 78 bytes .. Without OS/2, `head` (54 bytes) .. Without both: defaults." Of a font that has lost none of the tables that it needs for it.
+unfoldable pub fromTables : List ℕ → ℕ → Attributes
+fromTables file start =
     cond (present (tableData file start 0x4F532F32 78)) (fromOs2Post (tableData file start 0x4F532F32 78) (tableData file start 0x706F7374 32))
     (cond (present (tableData file start 0x68656164 54)) (fromHead (tableData file start 0x68656164 54))
     defaultAttributes)
+
+-- ---- "A damaged OS/2, `head` or `post` that the attributes need refuses the font."
+
+-- `post` is needed only where OS/2 is found, bit 0 is clear and bit 9 is set: by an oblique face
+unfoldable pub needsPost : List ℕ → Bool
+needsPost os2 = not (bit 0 (u16At os2 62)) && bit 9 (u16At os2 62)
+
+-- Needed are OS/2 whenever it has a record, `head` only where OS/2 has none, and `post` as said. By what lookup answers of OS/2, `head` and `post`.
+unfoldable pub neededDamaged : Handed → Handed → Handed → Bool
+neededDamaged no-table head post = isDamaged head
+neededDamaged damaged-table head post = true
+neededDamaged (found-table os2) head post = needsPost os2 && isDamaged post
+
+unfoldable pub losesNeeded : List ℕ → ℕ → Bool
+losesNeeded file start =
+    neededDamaged (handedTable file start 0x4F532F32 78) (handedTable file start 0x68656164 54) (handedTable file start 0x706F7374 32)
+
+-- what a font says of its attributes: that a table which they need is damaged, or the attributes
+unfoldable pub readAttributes : List ℕ → ℕ → FontAttributes
+readAttributes file start = cond (losesNeeded file start) Lost (Stated (fromTables file start))

@@ -1,11 +1,11 @@
 -- Section 2: big-endian fields, the table directory, and table lookup, from OpenType's "Organization of an OpenType Font".
-use Prim.Native.Nat.{ℕ, _+_, _*_}
-use mathlib.Core.Bool.{Bool, _&&_, _||_, cond}
+use Prim.Native.Nat.{ℕ, _+_, _*_, _/_, _%_}
+use mathlib.Core.Bool.{Bool, true, false, _&&_, _||_, cond}
 use mathlib.Core.List.{List, []}
 use lib.ListN.{length, getD, take, drop}
 use lib.Dec.{leb, ltb, eqb}
 use Rattle.font.specs.declared.tables.Table.{Table}
-use Rattle.font.specs.declared.tables.Table.the-variants.{Absent, Found}
+use Rattle.font.specs.declared.tables.Table.the-variants.{Absent, Damaged, Found}
 use Rattle.font.specs.First.{first}
 
 -- "All fields are big-endian." A field that does not lie whole in the bytes reads as 0, which section 2 never takes for data (`proofs/AnyReading.antt`).
@@ -14,6 +14,13 @@ u16At s at = cond (leb (at + 2) (length s)) (getD s at 0 * 256 + getD s (at + 1)
 
 unfoldable pub u32At : List ℕ → ℕ → ℕ
 u32At s at = cond (leb (at + 4) (length s)) (u16At s at * 65536 + u16At s (at + 2)) 0
+
+-- a number of two bytes, and of four, with its bytes in the opposite order
+unfoldable pub swapPair : ℕ → ℕ
+swapPair n = n / 256 + n % 256 * 256
+
+unfoldable pub swapBytes : ℕ → ℕ
+swapBytes n = swapPair (n / 65536) + swapPair (n % 65536) * 65536
 
 -- "A font starts with hexadecimal 00010000, `OTTO` or `true`"
 unfoldable pub startsAsFont : ℕ → Bool
@@ -42,23 +49,52 @@ directoryFits file start =
 unfoldable pub firstRecord : List ℕ → ℕ → ℕ → ℕ
 firstRecord file start tag = first (λ i. eqb (recordTag file start i) tag) (recordCount file start)
 
--- "A table reaching past the file, or shorter than needed, is absent." "Table offsets count from the start of the file."
+-- "Table lookup shall answer absent, damaged, or found. Damaged means that the first record with the tag reaches past the file or the table is shorter than" needed.
+-- "Table offsets count from the start of the file." What each answer means is said once more as `Answers.Means`.
 unfoldable pub tableOfRecord : List ℕ → ℕ → ℕ → ℕ → Table
 tableOfRecord file start least i =
     cond (leb least (recordLength file start i) && leb (recordOffset file start i + recordLength file start i) (length file))
     (Found (recordOffset file start i) (recordLength file start i))
-    Absent
+    Damaged
 
+-- absent: no record has the tag, or there is no directory
 unfoldable pub findTable : List ℕ → ℕ → ℕ → ℕ → Table
 findTable file start tag least =
     cond (directoryFits file start && ltb (firstRecord file start tag) (recordCount file start))
     (tableOfRecord file start least (firstRecord file start tag))
     Absent
 
--- "A found table is handed out as that part of the file and no other." An absent one is the empty part.
+-- "A found table is handed out as that part of the file and no other." Of an absent or a damaged one no byte is handed out.
 unfoldable pub partOf : List ℕ → Table → List ℕ
 partOf file Absent = []
+partOf file Damaged = []
 partOf file (Found offset len) = take len (drop offset file)
 
 unfoldable pub tableData : List ℕ → ℕ → ℕ → ℕ → List ℕ
 tableData file start tag least = partOf file (findTable file start tag least)
+
+-- ---- the three answers, wherever a found table lies
+
+pub data Handed : Type 0 where
+  no-table : Handed
+  damaged-table : Handed
+  found-table : List ℕ → Handed
+
+unfoldable pub handOut : List ℕ → Table → Handed
+handOut file Absent = no-table
+handOut file Damaged = damaged-table
+handOut file (Found offset len) = found-table (partOf file (Found offset len))
+
+unfoldable pub handedTable : List ℕ → ℕ → ℕ → ℕ → Handed
+handedTable file start tag least = handOut file (findTable file start tag least)
+
+-- the bytes of a found table
+unfoldable pub bytesOf : Handed → List ℕ
+bytesOf no-table = []
+bytesOf damaged-table = []
+bytesOf (found-table bytes) = bytes
+
+unfoldable pub isDamaged : Handed → Bool
+isDamaged no-table = false
+isDamaged damaged-table = true
+isDamaged (found-table bytes) = false

@@ -5,7 +5,8 @@ ghost use Prim.Native.Nat.{_+_, _*_, _^_, _≤_, _<_};
 ghost use lib.ListN.{length};
 ghost use Rattle.font.specs.Tables.{directoryFits};
 ghost use Rattle.font.specs.Collection.{fontStart};
-ghost use Rattle.font.specs.Charmap.{classOf, recordClass, someQualifies, bestClass, bestRecord, indexOf, charmapIndex};
+ghost use lib.Dec.{ltb};
+ghost use Rattle.font.specs.Charmap.{classOf, qualifies, recordClass, someQualifies, bestClass, bestRecord, indexOf, charmapIndex};
 ghost use Rattle.font.specs.Font.{hasIndex};
 use crate::collection::font_start;
 use crate::tables;
@@ -133,21 +134,61 @@ pub(crate) fn index_in(file: &[u8], start: usize) -> Charmap
 {
     match tables::table_in(file, start, 0x636D_6170, 4) {
         Table::Found { offset, length } => index_of(offset, &file[offset..offset + length]),
+        Table::Damaged => Charmap::Missing,
         Table::Absent => Charmap::Missing,
     }
 }
 
+// Whether an encoding record is of a class. The two numbers are compared as one.
+fn has_class(platform: u16, encoding: u16) -> bool
+    ensures { λ r. ⌜ r ≡ ltb (classOf platform encoding) 4 ⌝ }
+{
+    let pair = (platform as u32) * 65536 + encoding as u32;
+    if pair < 7 {
+        return pair != 5;
+    }
+    if pair == 0x0003_0001 {
+        return true;
+    }
+    if pair == 0x0003_000A {
+        return true;
+    }
+    if pair == 0x0003_0000 {
+        return true;
+    }
+    pair == 0x0001_0000
+}
+
+// Whether a record that lies in the table qualifies.
+fn record_qualifies(cmap: &[u8], i: usize) -> bool
+    requires { ⌜ 12 + 8 * i ≤ length (now cmap) ⌝ }
+    ensures { λ r. ⌜ r ≡ qualifies (now (cmap .entry)) i ⌝ }
+{
+    let offset = tables::u32_in(cmap, 8 + 8 * i) as usize;
+    if cmap.len() < offset + 2 {
+        return false;
+    }
+    has_class(
+        tables::u16_in(cmap, 4 + 8 * i),
+        tables::u16_in(cmap, 6 + 8 * i),
+    )
+}
+
 // Whether a record qualifies. The first that does ends the search.
-fn has_class(cmap: &[u8]) -> bool
+fn some_qualifies(cmap: &[u8]) -> bool
     ensures { λ r. ⌜ r ≡ someQualifies (now (cmap .entry)) ⌝ }
 {
-    let records = tables::u16_at(cmap, 2) as usize;
+    if cmap.len() < 4 {
+        return false;
+    }
+    let records = tables::u16_in(cmap, 2) as usize;
+    let whole = (cmap.len() - 4) / 8;
     let mut i: usize = 0;
     while i < records {
-        if cmap.len() < 12 + 8 * i {
+        if whole <= i {
             return false;
         }
-        if record_class(cmap, i) < 4 {
+        if record_qualifies(cmap, i) {
             return true;
         }
         i += 1;
@@ -160,7 +201,7 @@ pub(crate) fn has_index_in(file: &[u8], start: usize) -> bool
     requires { ⌜ directoryFits (now file) start ≡ true ⌝ }
     ensures { λ r. ⌜ r ≡ hasIndex (charmapIndex (now (file .entry)) start) ⌝ }
 {
-    has_class(tables::data_in(file, start, 0x636D_6170, 4))
+    some_qualifies(tables::data_in(file, start, 0x636D_6170, 4))
 }
 
 impl CharmapIndex {

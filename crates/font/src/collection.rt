@@ -1,6 +1,8 @@
 // The fonts of a file: one, or those of a collection, by OpenType's TTC header.
 ghost use mathlib.Core.Path.{_≡_};
 ghost use mathlib.Core.Bool.{true};
+ghost use Prim.Native.Nat.{_<_};
+ghost use Rattle.font.specs.Tables.{u32At};
 ghost use Rattle.font.specs.Collection.{isCollection, fontCount, fontStart};
 use crate::tables;
 
@@ -37,6 +39,31 @@ fn collection_start(file: &[u8], number: u16) -> usize
         }
     }
     file.len()
+}
+
+// Where the directory of a font begins, and the number that stands there.
+pub(crate) struct Beginning {
+    pub start: usize,
+    pub version: u32,
+}
+
+// Where the directory of the font of a number begins, of those that the file states.
+pub(crate) fn font_beginning(file: &[u8], number: u16) -> Beginning
+    requires { ⌜ number < fontCount (now file) ⌝ }
+    ensures { λ r. ⌜ (r .start ≡ fontStart (now (file .entry)) number) × (r .version ≡ u32At (now (file .entry)) (r .start)) ⌝ }
+{
+    let first = tables::u32_at(file, 0);
+    if first == TTCF {
+        let start = collection_start(file, number);
+        return Beginning {
+            start,
+            version: tables::u32_at(file, start),
+        };
+    }
+    Beginning {
+        start: 0,
+        version: first,
+    }
 }
 
 // Where the directory of the font of a number begins; the end of the file where there is no such font.

@@ -4,11 +4,11 @@ ghost use mathlib.Core.Bool.{true, cond};
 ghost use Prim.Native.Nat.{_<_, _≤_};
 ghost use lib.Dec.{leb, eqb};
 ghost use Rattle.font.specs.First.{first};
-ghost use Rattle.font.specs.Reading.{widthOfClass, postAngle, os2Style, fromOs2Post, headStyle, headWeight, fromHead, readAttributes};
-ghost use Rattle.font.specs.Tables.{directoryFits, tableData};
+ghost use Rattle.font.specs.Reading.{widthOfClass, postAngle, os2Style, fromOs2Post, headStyle, headWeight, fromHead, fromTables, needsPost, losesNeeded, readAttributes};
+ghost use Rattle.font.specs.Tables.{u32At, directoryFits, tableData};
 ghost use Rattle.font.specs.Charmap.{charmapIndex};
 ghost use Rattle.font.specs.Collection.{fontStart};
-ghost use Rattle.font.specs.Font.{fvarOf, axisCount, axisAt, axesOf, emptyFont, refusalAt, fontRefusal, checkedAt, fromFontRef, statesAxis, statedAt};
+ghost use Rattle.font.specs.Font.{fvarOf, axisCount, axisAt, axesOf, noIndex, indexOr, emptyFont, refusalAt, fontRefusal, faceOf, fromFontRef, statesAxis, statedAt};
 use crate::attributes::Angle;
 use crate::attributes::Attributes;
 use crate::attributes::FontStyle;
@@ -17,10 +17,12 @@ use crate::attributes::FontWidth;
 use crate::charmap;
 use crate::charmap::Charmap;
 use crate::charmap::CharmapIndex;
+use crate::collection::font_beginning;
 use crate::collection::font_count;
 use crate::collection::font_start;
 use crate::single;
 use crate::tables;
+use crate::tables::Table;
 
 // The tags of the tables that are read.
 const OS2: u32 = 0x4F53_2F32;
@@ -63,6 +65,12 @@ pub struct FontInfo {
 pub struct Checked {
     pub refusal: u8,
     pub font: FontInfo,
+}
+
+// What a font says of its attributes: that a table which they need is damaged, or the attributes.
+pub enum FontAttributes {
+    Lost,
+    Stated(Attributes),
 }
 
 // What the choice of a face looks at in a font.
@@ -145,10 +153,10 @@ fn from_head(head: &[u8]) -> Attributes
     Attributes::new(FontWidth::NORMAL, style, weight)
 }
 
-// As `read_attributes`, of a font whose directory, at `start`, fits.
-fn attributes_in(file: &[u8], start: usize) -> Attributes
+// The attributes by OS/2, else by `head`, else the defaults. Whether a table that they need is damaged is for `loses_needed` to say.
+fn from_tables(file: &[u8], start: usize) -> Attributes
     requires { ⌜ directoryFits (now file) start ≡ true ⌝ }
-    ensures { λ r. ⌜ r ≡ readAttributes (now (file .entry)) start ⌝ }
+    ensures { λ r. ⌜ r ≡ fromTables (now (file .entry)) start ⌝ }
 {
     let os2 = tables::data_in(file, start, OS2, 78);
     if 0 < os2.len() {
@@ -161,15 +169,47 @@ fn attributes_in(file: &[u8], start: usize) -> Attributes
     Attributes::DEFAULT
 }
 
-// The attributes that the font of a number states: OS/2's before `head`'s before the defaults.
-pub fn read_attributes(file: &[u8], number: u16) -> Attributes
+// Whether OS/2 needs the angle of `post`: bit 9 is set and bit 0 is not.
+fn needs_post(os2: &[u8]) -> bool
+    ensures { λ r. ⌜ r ≡ needsPost (now (os2 .entry)) ⌝ }
+{
+    let selection = tables::u16_at(os2, 62);
+    if selection % 2 == 1 {
+        return false;
+    }
+    selection / 512 % 2 == 1
+}
+
+// Whether a table that the attributes need is damaged; of a font whose directory fits.
+fn loses_needed(file: &[u8], start: usize) -> bool
+    requires { ⌜ directoryFits (now file) start ≡ true ⌝ }
+    ensures { λ r. ⌜ r ≡ losesNeeded (now (file .entry)) start ⌝ }
+{
+    match tables::table_in(file, start, OS2, 78) {
+        Table::Found { offset, length } => {
+            if needs_post(&file[offset..offset + length]) {
+                tables::is_damaged(file, start, POST, 32)
+            } else {
+                false
+            }
+        }
+        Table::Damaged => true,
+        Table::Absent => tables::is_damaged(file, start, HEAD, 54),
+    }
+}
+
+// The attributes that the font of a number states: OS/2's before `head`'s before the defaults; or that a table which they need is damaged.
+pub fn read_attributes(file: &[u8], number: u16) -> FontAttributes
     ensures { λ r. ⌜ r ≡ readAttributes (now (file .entry)) (fontStart (now (file .entry)) number) ⌝ }
 {
     let start = font_start(file, number);
     if tables::directory_fits(file, start) {
-        return attributes_in(file, start);
+        if loses_needed(file, start) {
+            return FontAttributes::Lost;
+        }
+        return FontAttributes::Stated(from_tables(file, start));
     }
-    Attributes::DEFAULT
+    FontAttributes::Stated(Attributes::DEFAULT)
 }
 
 // The number of axes that an `fvar` table gives.
@@ -228,91 +268,86 @@ impl FontInfo {
         },
     };
 
-    // The face of the font of a number, or the refusal 21, 22, 23 or 30.
+    // The face of the font of a number, or the refusal 21, 22, 23, 30 or 31.
     pub fn from_font_ref(file: &[u8], number: u16) -> Checked
         ensures { λ r. ⌜ r ≡ fromFontRef (now (file .entry)) number ⌝ }
     {
-        if file.len() < 12 {
-            return refused(21);
+        let refusal = font_refusal(file, number);
+        if refusal == 0 {
+            let font = read_font(file, number);
+            return Checked { refusal, font };
         }
-        if (number as u32) < font_count(file) {
-            return font_at(file, font_start(file, number));
+        Checked {
+            refusal,
+            font: FontInfo::EMPTY,
         }
-        refused(30)
     }
 }
 
-fn refused(refusal: u8) -> Checked
-    ensures { λ r. ⌜ r ≡ record { refusal = refusal; font = emptyFont } ⌝ }
+// The charmap index of a font whose directory, at `start`, fits; zeros where it has none.
+fn index_or_none(file: &[u8], start: usize) -> CharmapIndex
+    requires { ⌜ directoryFits (now file) start ≡ true ⌝ }
+    ensures { λ r. ⌜ r ≡ indexOr noIndex (charmapIndex (now (file .entry)) start) ⌝ }
 {
-    Checked {
-        refusal,
-        font: FontInfo::EMPTY,
-    }
-}
-
-// The face of the font whose directory begins at `start`, or the refusal 21, 22 or 23.
-fn font_at(file: &[u8], start: usize) -> Checked
-    ensures { λ r. ⌜ r ≡ checkedAt (now (file .entry)) start ⌝ }
-{
-    if tables::directory_fits(file, start) {
-        match charmap::index_in(file, start) {
-            Charmap::Index(index) => with_index(file, start, index),
-            Charmap::Missing => refused(22),
-        }
-    } else {
-        refused(21)
-    }
-}
-
-// The face of a font whose charmap index is known.
-fn with_index(file: &[u8], start: usize, index: CharmapIndex) -> Checked
-    requires { ⌜ (directoryFits (now file) start ≡ true) × (charmapIndex (now file) start ≡ Charmap.Index index) ⌝ }
-    ensures { λ r. ⌜ r ≡ checkedAt (now (file .entry)) start ⌝ }
-{
-    let fvar = tables::data_in(file, start, FVAR, 16);
-    let count = axis_count(fvar);
-    if 16 < count {
-        return refused(23);
-    }
-    let attributes = attributes_in(file, start);
-    let axes = read_axes(fvar, count);
-    Checked {
-        refusal: 0,
-        font: FontInfo {
-            attributes,
-            axes,
-            axis_count: count,
-            charmap_index: index,
+    match charmap::index_in(file, start) {
+        Charmap::Index(index) => index,
+        Charmap::Missing => CharmapIndex {
+            subtable_offset: 0,
+            is_symbol: false,
+            is_mac_roman: false,
         },
     }
 }
 
-// 23 for a font with over 16 axes, or 0.
+// The face of the font of a number, which `font_refusal` does not refuse.
+pub fn read_font(file: &[u8], number: u16) -> FontInfo
+    requires { ⌜ fontRefusal (now file) number ≡ 0 ⌝ }
+    ensures { λ r. ⌜ r ≡ faceOf (now (file .entry)) (fontStart (now (file .entry)) number) ⌝ }
+{
+    let start = font_start(file, number);
+    let fvar = tables::data_in(file, start, FVAR, 16);
+    let count = axis_count(fvar);
+    let attributes = from_tables(file, start);
+    let axes = read_axes(fvar, count);
+    let charmap_index = index_or_none(file, start);
+    FontInfo {
+        attributes,
+        axes,
+        axis_count: count,
+        charmap_index,
+    }
+}
+
+// 23 for a font with over 16 axes, or 0. A table that states no more gives no more.
 fn axes_refusal(file: &[u8], start: usize) -> u8
     requires { ⌜ directoryFits (now file) start ≡ true ⌝ }
     ensures { λ r. ⌜ r ≡ cond (leb (axisCount (fvarOf (now (file .entry)) start)) 16) 0 23 ⌝ }
 {
     let fvar = tables::data_in(file, start, FVAR, 16);
+    if tables::u16_at(fvar, 8) <= 16 {
+        return 0;
+    }
     if 16 < axis_count(fvar) { 23 } else { 0 }
 }
 
-// The number with which the font whose directory begins at `start` is refused, or 0.
-fn refusal_at(file: &[u8], start: usize) -> u8
+// The number with which the font whose directory begins at `start`, where the number `version` stands, is refused, or 0.
+fn refusal_at(file: &[u8], start: usize, version: u32) -> u8
+    requires { ⌜ version ≡ u32At (now file) start ⌝ }
     ensures { λ r. ⌜ r ≡ refusalAt (now (file .entry)) start ⌝ }
 {
-    if tables::directory_fits(file, start) {
-        if charmap::has_index_in(file, start) {
-            axes_refusal(file, start)
-        } else {
-            22
+    if tables::fits_by(file, start, version) {
+        if loses_needed(file, start) {
+            return 31;
         }
-    } else {
-        21
+        if charmap::has_index_in(file, start) {
+            return axes_refusal(file, start);
+        }
+        return 22;
     }
+    21
 }
 
-// The number with which `from_font_ref` refuses the font of a number, or 0.
+// The number with which `from_font_ref` refuses the font of a number, or 0. No other code of this crate says it.
 pub fn font_refusal(file: &[u8], number: u16) -> u8
     ensures { λ r. ⌜ r ≡ fontRefusal (now (file .entry)) number ⌝ }
 {
@@ -320,7 +355,8 @@ pub fn font_refusal(file: &[u8], number: u16) -> u8
         return 21;
     }
     if (number as u32) < font_count(file) {
-        return refusal_at(file, font_start(file, number));
+        let font = font_beginning(file, number);
+        return refusal_at(file, font.start, font.version);
     }
     30
 }
@@ -351,21 +387,16 @@ fn states_axis(file: &[u8], start: usize, tag: u32) -> bool
     axis_record(fvar, count, tag) < count
 }
 
-// The attributes that the font of a number states, and whether it gives an axis with the tag.
+// The attributes that the font of a number states, and whether it gives an axis with the tag. `font_refusal` does not refuse it.
 pub fn read_stated(file: &[u8], number: u16, tag: u32) -> Stated
+    requires { ⌜ fontRefusal (now file) number ≡ 0 ⌝ }
     ensures { λ r. ⌜ r ≡ statedAt (now (file .entry)) (fontStart (now (file .entry)) number) tag ⌝ }
 {
     let start = font_start(file, number);
-    if tables::directory_fits(file, start) {
-        let attributes = attributes_in(file, start);
-        let has_axis = states_axis(file, start, tag);
-        return Stated {
-            attributes,
-            has_axis,
-        };
-    }
+    let attributes = from_tables(file, start);
+    let has_axis = states_axis(file, start, tag);
     Stated {
-        attributes: Attributes::DEFAULT,
-        has_axis: false,
+        attributes,
+        has_axis,
     }
 }

@@ -9,11 +9,11 @@ use Rattle.font.proofs.charmap.has_index_in.Tie as tie
 data-in-requires : tie.Need-data-in-requires
 data-in-requires c κs = search needs
 
-has-class-requires : tie.Need-has-class-requires
-has-class-requires c κs = search needs
+some-qualifies-requires : tie.Need-some-qualifies-requires
+some-qualifies-requires c κs = search needs
 
 returns : tie.Need-returns
-returns c = rw (c .before .data-in .ensures) at (c .has-class .ensures) ∙ sym (font-has _ _)
+returns c = rw (c .before .data-in .ensures) at (c .some-qualifies .ensures) ∙ sym (font-has _ _)
 
 pub has-index-in-spec : {M : Type 1} → statement M
-has-index-in-spec = tie.close (tie.spec data-in-requires has-class-requires returns)
+has-index-in-spec = tie.close (tie.spec data-in-requires some-qualifies-requires returns)

@@ -1,11 +1,11 @@
--- `font::charmap::index_in` meets its contract: a found table lies in the file and has 4 bytes.
+-- `font::charmap::index_in` meets its contract: a found table lies in the file and has the bytes that were asked for.
 -- Assumes nothing.
 use mathlib.Core.Path.{sym, _∙_}
 use native.Mathlib.Omega.{arith}
 use native.Mathlib.Nat.{add-sub-cancel-left}
 use lib.ListN.{length-take, length-drop}
 use Rattle.font.specs.Tables.{partOf}
-use Rattle.font.specs.Charmap.{charmapIndex, indexIn}
+use Rattle.font.specs.Charmap.{indexIn, charmapIndex}
 use Rattle.font.proofs.Lookup.{within}
 use borrow.Author.Needs.{needs}
 use Rattle.font.proofs.charmap.index_in.Statement.{statement}
@@ -36,6 +36,9 @@ index-of-requires c κs = let w = within _ _ _ _ _ _ (sym (c .before .before .be
 enum-told : tie.Need-enum-told
 enum-told c = search needs
 
+enum-told-2 : tie.Need-enum-told-2
+enum-told-2 c = search needs
+
 returns : tie.Need-returns
 unfolding charmapIndex indexIn partOf
 returns c = c .index-of .ensures ∙ simp (add-sub-cancel-left, (sym (c .before .before .before .before .before .table-in .ensures) ∙ c .before .before .before .offset .given .1))
@@ -43,6 +46,10 @@ returns c = c .index-of .ensures ∙ simp (add-sub-cancel-left, (sym (c .before 
 returns-2 : tie.Need-returns-2
 unfolding charmapIndex indexIn partOf
 returns-2 c = simp (sym (c .before .before .table-in .ensures) ∙ c .enum-told .given .1)
+
+returns-3 : tie.Need-returns-3
+unfolding charmapIndex indexIn partOf
+returns-3 c = simp (sym (c .before .before .table-in .ensures) ∙ c .enum-told2 .given .1)
 
 pub index-in-spec : {M : Type 1} → statement M
 index-in-spec =
@@ -56,5 +63,7 @@ index-in-spec =
     part-index-of-end
     index-of-requires
     enum-told
+    enum-told-2
     returns
-    returns-2)
+    returns-2
+    returns-3)

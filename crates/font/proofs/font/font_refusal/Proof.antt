@@ -15,15 +15,16 @@ returns c = simp (lt-leb _ _ (c .if1 .taken))
 font-count-requires : tie.Need-font-count-requires
 font-count-requires c κs = search needs
 
-font-start-requires : tie.Need-font-start-requires
-font-start-requires c κs = search needs
+font-beginning-requires : tie.Need-font-beginning-requires
+font-beginning-requires c κs = search needs
 
 refusal-at-requires : tie.Need-refusal-at-requires
 refusal-at-requires c κs = search needs
 
 returns-2 : tie.Need-returns-2
 unfolding fontRefusal headerFits
-returns-2 c = simp (le-leb _ _ (c .before .before .before .before .if1 .left), sym (c .before .before .before .font-count .ensures), lt-ltb _ _ (c .before .before .if2 .taken), sym (c .before .font-start .ensures), sym (c .refusal-at .ensures))
+returns-2 c = simp
+    (le-leb _ _ (c .before .before .before .before .if1 .left), sym (c .before .before .before .font-count .ensures), lt-ltb _ _ (c .before .before .if2 .taken), sym (c .before .font-beginning .ensures .0), sym (c .refusal-at .ensures))
 
 returns-3 : tie.Need-returns-3
 unfolding fontRefusal headerFits
@@ -35,7 +36,7 @@ font-refusal-spec =
     (tie.spec
     returns
     font-count-requires
-    font-start-requires
+    font-beginning-requires
     refusal-at-requires
     returns-2
     returns-3)

@@ -2,7 +2,7 @@
 -- Assumes nothing.
 use mathlib.Core.Path.{sym, _∙_}
 use native.Mathlib.Omega.{arith}
-use Rattle.font.proofs.Lookup.{within, found-part, absent-part}
+use Rattle.font.proofs.Lookup.{within, found-part, absent-part, damaged-part}
 use borrow.Author.Needs.{needs}
 use Rattle.font.proofs.tables.data_in.Statement.{statement}
 use Rattle.font.proofs.tables.data_in.Tie as tie
@@ -37,11 +37,26 @@ part-result-start-2 c = search needs
 part-result-end-2 : tie.Need-part-result-end-2
 part-result-end-2 c = search needs
 
+enum-told-2 : tie.Need-enum-told-2
+enum-told-2 c = search needs
+
+sub-result-3 : tie.Need-sub-result-3
+sub-result-3 c = search needs
+
+part-result-start-3 : tie.Need-part-result-start-3
+part-result-start-3 c = search needs
+
+part-result-end-3 : tie.Need-part-result-end-3
+part-result-end-3 c = search needs
+
 returns : tie.Need-returns
 returns c = found-part _ _ _ _ _ _ (sym (c .before .before .before .before .table-in .ensures) ∙ c .before .before .offset .given .1)
 
 returns-2 : tie.Need-returns-2
-returns-2 c = absent-part _ _ _ _ (sym (c .before .before .before .table-in .ensures) ∙ c .before .enum-told .given .1)
+returns-2 c = damaged-part _ _ _ _ (sym (c .before .before .before .table-in .ensures) ∙ c .before .enum-told .given .1)
+
+returns-3 : tie.Need-returns-3
+returns-3 c = absent-part _ _ _ _ (sym (c .before .before .before .table-in .ensures) ∙ c .before .enum-told2 .given .1)
 
 pub data-in-spec : {M : Type 1} → statement M
 data-in-spec =
@@ -57,5 +72,10 @@ data-in-spec =
     sub-result-2
     part-result-start-2
     part-result-end-2
+    enum-told-2
+    sub-result-3
+    part-result-start-3
+    part-result-end-3
     returns
-    returns-2)
+    returns-2
+    returns-3)
