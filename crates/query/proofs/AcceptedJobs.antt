@@ -9,7 +9,7 @@ use lib.Seq.{drop-length}
 use borrow.Author.Tests.{le-leb, le-ltb}
 use Rattle.query.specs.declared.job.Checked.{Checked}
 use Rattle.query.specs.Sizes.{mostBytes, mostFaces, mostOverrides, mostFamilies, mostRequests}
-use Rattle.query.specs.Reader.{Refusal, overlong, pastEnd, overLimit, notHeld, badDirectory, noCharmap, manyAxes, noFace, unknown, badNumber, bytesLeft, noFont, number, got}
+use Rattle.query.specs.Reader.{Refusal, overlong, pastEnd, overLimit, notHeld, badDirectory, noCharmap, manyAxes, noFace, unknown, badNumber, bytesLeft, noFont, damagedTable, number, got}
 use Rattle.query.specs.Fields.{counted}
 use Rattle.query.specs.Entries.{readFace, readOverride, readFamily, readRequest}
 use Rattle.query.specs.Job.{Job, atEnd, readSections, readJob, answer, checkJob, jobOf}
@@ -127,9 +127,9 @@ accepted-exactly s B = (
   (λ h. ap checkJob (h .1) ∙ ap answer (layout-is-accepted (h .0) (h .2))),
 )
 
--- the table's rows for a job are 17 to 27, and 30
+-- the table's rows for a job are 17 to 27, 30 and 31
 abbrev JobRow : ℕ → Type 0
-JobRow n = (17 ≤ n) × ((n ≤ 27) ⊎ (n ≡ 30))
+JobRow n = (17 ≤ n) × ((n ≤ 27) ⊎ ((n ≡ 30) ⊎ (n ≡ 31)))
 
 pub number-row : (w : Refusal) → JobRow (number w)
 unfolding number
@@ -144,7 +144,8 @@ number-row noFace = (omega arith, inl (omega arith))
 number-row unknown = (omega arith, inl (omega arith))
 number-row badNumber = (omega arith, inl (omega arith))
 number-row bytesLeft = (omega arith, inl (omega arith))
-number-row noFont = (omega arith, inr refl)
+number-row noFont = (omega arith, inr (inl refl))
+number-row damagedTable = (omega arith, inr (inr refl))
 
 -- no two jobs within the limits have one layout
 pub one-job : (i j : Job) → JobFits i → JobFits j → layout i ≡ layout j → i ≡ j

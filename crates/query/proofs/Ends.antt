@@ -8,7 +8,7 @@ use lib.ListN.{length}
 use lib.Dec.{leb}
 use borrow.Author.Tests.{leb-true}
 use Rattle.query.specs.declared.fields.At.{At}
-use Rattle.query.specs.Reader.{Refusal, overlong, pastEnd, overLimit, notHeld, badDirectory, noCharmap, manyAxes, noFace, unknown, badNumber, bytesLeft, noFont, number, Got, refused, got, Reader, done, onward, _>>=_, field, tested, many, ended}
+use Rattle.query.specs.Reader.{Refusal, overlong, pastEnd, overLimit, notHeld, badDirectory, noCharmap, manyAxes, noFace, unknown, badNumber, bytesLeft, noFont, damagedTable, number, Got, refused, got, Reader, done, onward, _>>=_, field, tested, many, ended}
 use Rattle.query.specs.Fields.{fieldEnd}
 
 -- no row of the table has the number 0
@@ -26,6 +26,7 @@ number-nonzero unknown e = omega arith
 number-nonzero badNumber e = omega arith
 number-nonzero bytesLeft e = omega arith
 number-nonzero noFont e = omega arith
+number-nonzero damagedTable e = omega arith
 
 -- ---- fields
 

@@ -11,7 +11,7 @@ use lib.Dec.{leb, eqb}
 use borrow.Author.Tests.{le-leb, leb-true}
 use Rattle.font.specs.Collection.{isCollection, headerFits, fontCount}
 use Rattle.font.specs.Font.{fontRefusal}
-use Rattle.query.specs.Reader.{Refusal, pastEnd, overLimit, notHeld, badDirectory, noCharmap, manyAxes, unknown, noFont, number, Got, refused, got, Reader, done, onward, _>>=_}
+use Rattle.query.specs.Reader.{Refusal, pastEnd, overLimit, notHeld, badDirectory, noCharmap, manyAxes, unknown, noFont, damagedTable, number, Got, refused, got, Reader, done, onward, _>>=_}
 use Rattle.query.specs.Fields.{half, word, count, counted, byteCounted, heldByte, mask, kind, spareByte, orSpare, NumberedFont, fontRow, fontBytes, sizedFile, numberBelow, refusedAt, fontNumber, fontTaken, numbered, fontFile}
 use Rattle.query.specs.Entries.{readFace, readAngle, readStyle, readWidth, readWeight, styleOrSpare, readGiven, readPair, readOverride, readFamily, readRequested, readRequest}
 use Rattle.query.proofs.Readings.{place, Goes, Kept, Back, Passes, passes-then, Lacked, Reads, never, reads-done, reads-then, reads-many, OfField, Field, reads-field, tested-field, byte-field, half-field, word-field, ratio-field, value-field, spare-word-field, face-number-field}
@@ -98,12 +98,13 @@ reads-number at file = go (isCollection file) (headerFits file)
 
 font-row : (n : ℕ) → eqb (number (fontRow n)) 27 ≡ false
 unfolding fontRow number
-font-row n = go (eqb n 21) (eqb n 22)
+font-row n = go (eqb n 21) (eqb n 31) (eqb n 22)
   where
-    go : (b c : Bool) → eqb (number (cond b badDirectory (cond c noCharmap manyAxes))) 27 ≡ false
-    go true c = refl
-    go false true = refl
-    go false false = refl
+    go : (b d c : Bool) → eqb (number (cond b badDirectory (cond d damagedTable (cond c noCharmap manyAxes)))) 27 ≡ false
+    go true d c = refl
+    go false true c = refl
+    go false false true = refl
+    go false false false = refl
 
 reads-taken : (at : ℕ) (font : NumberedFont) → Reads (Early at) (fontTaken at font)
 unfolding fontTaken done refusedAt

@@ -7,9 +7,12 @@ use lib.ListN.{replicate}
 use lib.Dec.{eqb}
 use lib.Ieee.{ofBits, ofInt, le, lt, eq}
 use Rattle.font.specs.Single.{single, acceptedRatio}
-use Rattle.font.specs.Tables.{u16At, u32At, directoryFits}
+use Rattle.font.specs.First.{first}
+use Rattle.font.specs.Tables.{u16At, u32At, startsAsFont, recordCount, recordTag, recordOffset, recordLength, directoryFits, firstRecord, tableOfRecord, findTable, handOut, handedTable, isDamaged}
 use Rattle.font.specs.Collection.{isCollection, headerFits, fontCount, offsetsFit, offsetOf, fontStart}
-use Rattle.font.specs.Font.{refusalAt, fontRefusal}
+use Rattle.font.specs.Charmap.{indexIn, charmapIndex}
+use Rattle.font.specs.Reading.{neededDamaged, losesNeeded}
+use Rattle.font.specs.Font.{hasIndex, refusalAt, fontRefusal}
 use Rattle.query.specs.Reader.{number, done, onward, _>>=_, field, tested, many}
 use Rattle.query.specs.Fields.{byte, half, word, ratio, value, count, counted, byteCounted, heldByte, faceNumber, kind, spareWord, orSpare, fontRow, fontBytes, sizedFile, numberBelow, refusedAt, fontNumber, fontTaken, numbered, fontFile}
 use Rattle.query.specs.Fields.{single as singleField}
@@ -37,6 +40,10 @@ collection : ℕ → ℕ → List ℕ → List ℕ
 collection high low rest =
     0 ∷ 1 ∷ 1 ∷ 0 ∷ 0 ∷ 0 ∷ 12 ∷ 0x74 ∷ 0x74 ∷ 0x63 ∷ 0x66 ∷ 0 ∷ 1 ∷ 0 ∷ 0 ∷ high ∷ 0 ∷ 0 ∷ low ∷ rest
 
+-- one face, a lone font of 28 bytes whose directory has one record, of a tag and of length 0
+oneRecord : ℕ → List ℕ → List ℕ
+oneRecord held tag = 0 ∷ 1 ∷ held ∷ 0 ∷ 0 ∷ 0 ∷ 28 ∷ 0 ∷ 1 ∷ 0 ∷ 0 ∷ 0 ∷ 1 ∷ 0 ∷ 0 ∷ 0 ∷ 0 ∷ 0 ∷ 0 ∷ tag ++ replicate 12 0
+
 pub cases : List Case
 cases =
     -- "eight zero bytes accepted, nine 27"
@@ -61,6 +68,13 @@ cases =
     ∷ answers (collection 0 1 (0 ∷ 0 ∷ [])) 21 3
     -- one that states 2^30, whose offsets would end where they begin if 12 + 4 * count wrapped at 2^32
     ∷ answers (collection 0x40 0 (0 ∷ 0 ∷ [])) 21 3
+    -- a damaged OS/2, and a damaged `head` without OS/2, both before the lack of `cmap` and whether the face is held or not; damaged tables that are not needed
+    ∷ answers (oneRecord 1 (0x4F ∷ 0x53 ∷ 0x2F ∷ 0x32 ∷ [])) 31 3
+    ∷ answers (oneRecord 0 (0x4F ∷ 0x53 ∷ 0x2F ∷ 0x32 ∷ [])) 31 3
+    ∷ answers (oneRecord 1 (0x68 ∷ 0x65 ∷ 0x61 ∷ 0x64 ∷ [])) 31 3
+    ∷ answers (oneRecord 1 (0x70 ∷ 0x6F ∷ 0x73 ∷ 0x74 ∷ [])) 22 3
+    ∷ answers (oneRecord 1 (0x66 ∷ 0x76 ∷ 0x61 ∷ 0x72 ∷ [])) 22 3
+    ∷ answers (oneRecord 1 (0x63 ∷ 0x6D ∷ 0x61 ∷ 0x70 ∷ [])) 22 3
     -- an override of a face that the job lacks, cut and whole
     ∷ answers (0 ∷ 0 ∷ 0 ∷ 1 ∷ 0 ∷ []) 18 4
     ∷ answers (0 ∷ 0 ∷ 0 ∷ 1 ∷ 0 ∷ 0 ∷ []) 24 4
@@ -83,5 +97,5 @@ right [] = true
 right (c ∷ cs) = eqb (checkJob (c .job) .refusal) (c .refusal) && (eqb (checkJob (c .job) .position) (c .position) && right cs)
 
 pub small-jobs : right cases ≡ true
-unfolding right cases answers request zero4 collection checkJob readJob answer readSections counted byteCounted count tested field byte half word u16At u32At many done _>>=_ onward atEnd number readFace heldByte fontFile sizedFile fontBytes numbered fontNumber numberBelow refusedAt fontTaken fontRow fontRefusal refusalAt isCollection headerFits fontCount offsetsFit offsetOf fontStart directoryFits readOverride faceNumber readFamily readRequest readRequested ratio value singleField acceptedRatio single ofInt ofBits le lt eq readStyle kind orSpare spareWord readAngle styleOfKind
+unfolding right cases answers request zero4 collection oneRecord checkJob readJob answer readSections counted byteCounted count tested field byte half word u16At u32At many done _>>=_ onward atEnd number readFace heldByte fontFile sizedFile fontBytes numbered fontNumber numberBelow refusedAt fontTaken fontRow fontRefusal refusalAt isCollection headerFits fontCount offsetsFit offsetOf fontStart directoryFits startsAsFont recordCount recordTag recordOffset recordLength firstRecord first tableOfRecord findTable handOut handedTable isDamaged neededDamaged losesNeeded charmapIndex indexIn hasIndex readOverride faceNumber readFamily readRequest readRequested ratio value singleField acceptedRatio single ofInt ofBits le lt eq readStyle kind orSpare spareWord readAngle styleOfKind
 small-jobs = refl

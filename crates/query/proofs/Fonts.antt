@@ -12,10 +12,10 @@ use borrow.Author.Tests.{le-leb, lt-leb, eq-eqb, ne-eqb}
 use Rattle.font.specs.Tables.{u16At, u32At}
 use Rattle.font.specs.Collection.{isCollection, headerFits, fontCount, fontStart}
 use Rattle.font.specs.Font.{refusalAt, fontRefusal}
-use Rattle.font.proofs.FaceOf.{OneOf, accepted, directory, charmap, axes, number, refusal-one-of, below-not-30}
+use Rattle.font.proofs.FaceOf.{OneOf, accepted, directory, charmap, axes, number, damage, refusal-one-of, below-not-30}
 use Rattle.query.specs.declared.fields.At.{At}
 use Rattle.query.specs.Reader as Reader
-use Rattle.query.specs.Reader.{badDirectory, noCharmap, manyAxes, noFont, refused, got, done, onward, _>>=_, field, ended}
+use Rattle.query.specs.Reader.{badDirectory, noCharmap, manyAxes, noFont, damagedTable, refused, got, done, onward, _>>=_, field, ended}
 use Rattle.query.specs.Fields.{half, word, NumberedFont, fieldEnd, fontRow, fontBytes, sizedFile, numberBelow, refusedAt, fontNumber, fontTaken, numbered, fontFile}
 use Rattle.query.specs.Values.{numberBehind}
 use Rattle.query.proofs.Ends.{tested-ends, stops, goes, got-there}
@@ -52,7 +52,7 @@ short-numbered place file s p l = go (isCollection file) (headerFits file) (lt-l
         ≡ ended {A = NumberedFont}
         (onward (cond a (cond b (numberBelow (fontCount file)) (refusedAt badDirectory place)) (done 0) s p)
         (λ i q. let r = cond b (cond (ltb i (fontCount file)) (refusalAt file (fontStart file i)) 30) 21 in
-        cond (eqb r 0) (got (record { file = file; number = i }) q) (refused (cond (eqb r 21) badDirectory (cond (eqb r 22) noCharmap manyAxes)) place)))
+        cond (eqb r 0) (got (record { file = file; number = i }) q) (refused (cond (eqb r 21) badDirectory (cond (eqb r 31) damagedTable (cond (eqb r 22) noCharmap manyAxes))) place)))
     go true true e = absurd (let z : _≡_ {A = ℕ} 0 1 = cc in omega arith)
     go true false e = refl
     go false true e = absurd (let z : _≡_ {A = ℕ} 0 1 = cc in omega arith)
@@ -68,6 +68,7 @@ font-number n (directory e) h k = rw e
 font-number n (charmap e) h k = rw e
 font-number n (axes e) h k = rw e
 font-number n (number e) h k = absurd (k e)
+font-number n (damage e) h k = rw e
 
 -- ---- what follows the bytes
 

@@ -131,6 +131,7 @@ module _ {s : List ℕ} {w : Walked} {before families : List ℕ} {asked : ℕ} 
                 ap (λ (xs : List (List ℕ)). getD xs i []) rows-after ∙ row-after os rows i f _ (omega (arith, faces .long)) stated
                 ∙ ap (λ (b : Bool). rowOf (afterOverrides os i f .attributes) (marks p (faceAt s p .held) b)) slant ∙ ap seen (there .face-is);
             face = there .face-is;
+            taken = taken;
             inside = there .inside;
           }
         where

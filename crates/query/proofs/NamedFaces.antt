@@ -15,7 +15,7 @@ use Rattle.query.specs.Job.{jobOf}
 use Rattle.query.specs.View.{View, afterOverrides, statedBy, viewOf}
 use Rattle.query.specs.Offers.{membersOf, faceOfOffer}
 use Rattle.query.specs.Values.{faceAt}
-use Rattle.query.specs.CallTables.{marks, OfferedFace, TablesOf, RowIn, FamilyIn}
+use Rattle.query.specs.CallTables.{FontTaken, marks, OfferedFace, TablesOf, RowIn, FamilyIn}
 use Rattle.query.specs.Listed.{SectionIn, Names}
 
 -- where the entry of a face begins, from the marks of its row
@@ -60,6 +60,9 @@ module _ {s : List ℕ} {rows : List (List ℕ)} {families : List ℕ} (loaded :
 
       pub entry-inside : entry < length s
       entry-inside = omega (arith, entry-is, row .inside)
+
+      pub entry-taken : FontTaken (faceAt s entry .font)
+      entry-taken = rw entry-is (row .taken)
 
       pub face-named : {section : ℕ} {font : FontInfo} → SectionIn s section → OfferedFace s section entry i font → font ≡ faceOfOffer view o
       unfolding viewOf faceOfOffer

@@ -26,9 +26,10 @@ use Rattle.query.specs.Sizes.{mostBytes}
 use Rattle.query.specs.Reader.{many}
 use Rattle.query.specs.Entries.{Face, Override, readFace}
 use Rattle.query.specs.Positions.{LiesAt}
-use Rattle.query.specs.Values.{fileEnd, faceAt, faceEnd}
+use Rattle.font.specs.Font.{fontRefusal}
+use Rattle.query.specs.Values.{fileAt, fileEnd, numberBehind, faceAt, faceEnd}
 use Rattle.query.specs.View.{overriddenBy, afterOverrides, noEntry, entryOf}
-use Rattle.query.specs.CallTables.{rowAt, withWidth, withStyle, withWeight, rowOverridden, rowsAfter, FacesLie, EntryRow, RowsAt}
+use Rattle.query.specs.CallTables.{rowAt, withWidth, withStyle, withWeight, rowOverridden, rowsAfter, FontTaken, FacesLie, EntryRow, RowsAt}
 use Rattle.query.proofs.Ends.{many-length}
 use Rattle.query.proofs.FacesAt.{Next, face-at, next-face}
 
@@ -55,6 +56,7 @@ module _ {s : List ℕ} {at count : ℕ} {before : List (List ℕ)} where
       row : EntryRow s (entryOf faces i) (rowAt s place)
       inside : place < length s
       file : fileEnd s place ≤ length s
+      taken : FontTaken (faceAt s place .font)
       others : LiesAt (many (count - (i + 1)) readFace) s (faceEnd s place) (drop (i + 1) faces)
 
     face-here : (faces : List Face) → LiesAt (many count readFace) s at faces → FaceHere faces
@@ -75,6 +77,7 @@ module _ {s : List ℕ} {at count : ℕ} {before : List (List ℕ)} where
               row = record { entry = place; is = refl; face-is = is; taken = rw is at (read .2); inside = read .3 };
               inside = read .3;
               file = read .4;
+              taken = read .2;
               others = rw rest at (next .left);
             }
 
@@ -83,6 +86,11 @@ module _ {s : List ℕ} {at count : ℕ} {before : List (List ℕ)} where
 
     pub file-inside : FacesLie s at count → fileEnd s place ≤ length s
     file-inside known = face-here (known .faces) (known .lie) .file
+
+    pub font-there : FacesLie s at count → {file : List ℕ} {number : ℕ} → file ≡ fileAt s place → number ≡ numberBehind s (fileEnd s place) file
+        → fontRefusal file number ≡ 0
+    unfolding faceAt
+    font-there known f n = rw (n, f) (face-here (known .faces) (known .lie) .taken)
 
     pub face-passed : {next : ℕ} {row : List ℕ} → i < length rows → row ≡ rowAt s place → next ≡ faceEnd s place
         → FacesLeft s at count (i + 1) next before (set rows i row)

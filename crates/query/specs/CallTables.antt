@@ -7,7 +7,7 @@ use lib.Dec.{eqb}
 use lib.ListN.{length, getD, set}
 use Rattle.font.specs.Single.{orderKey, wholePercent}
 use Rattle.font.specs.Tables.{u16At}
-use Rattle.font.specs.Reading.{readAttributes}
+use Rattle.font.specs.Reading.{fromTables}
 use Rattle.font.specs.Collection.{fontStart}
 use Rattle.font.specs.Font.{fontRefusal, statesAxis}
 use Rattle.font.specs.Overrides.{setDefaults, withAxes}
@@ -51,7 +51,7 @@ heldRow rows i = isHeld (getD rows i [])
 
 -- the attributes and the axes that a file's font states
 unfoldable pub attributesIn : NumberedFont → Attributes
-attributesIn f = readAttributes (f .file) (fontStart (f .file) (f .number))
+attributesIn f = fromTables (f .file) (fontStart (f .file) (f .number))
 
 unfoldable pub axisIn : NumberedFont → ℕ → Bool
 axisIn f tag = statesAxis (f .file) (fontStart (f .file) (f .number)) tag
@@ -82,6 +82,10 @@ unfoldable pub rowsAfter : List Override → List (List ℕ) → List (List ℕ)
 rowsAfter [] rows = rows
 rowsAfter (o ∷ os) rows = rowsAfter os (set rows (o .face) (rowOverridden (o .given) (getD rows (o .face) [])))
 
+-- the font layer does not refuse a font
+abbrev pub FontTaken : NumberedFont → Type 0
+FontTaken f = fontRefusal (f .file) (f .number) ≡ 0
+
 -- ---- what the steps of loading promise
 
 -- so many faces lie one after another from a position on, in a job that is not too long
@@ -95,7 +99,7 @@ pub record EntryRow (s : List ℕ) (face : Face) (row : List ℕ) : Type 0 where
   pub entry : ℕ
   pub is : row ≡ rowAt s entry
   pub face-is : faceAt s entry ≡ face
-  pub taken : fontRefusal (face .font .file) (face .font .number) ≡ 0
+  pub taken : FontTaken (face .font)
   pub inside : entry < length s
 
 -- the rows of so many faces that lie one after another from a position on
@@ -130,6 +134,7 @@ pub record RowIn (s : List ℕ) (view : View) (i : ℕ) (row : List ℕ) : Type 
   pub entry : ℕ
   pub is : row ≡ rowOf (view .font i .attributes) (marks entry (view .held i) (hasAxis (view .font i) slnt))
   pub face : faceAt s entry ≡ entryOf (jobOf s .faces) i
+  pub taken : FontTaken (faceAt s entry .font)
   pub inside : entry < length s
 
 -- a family whose entry begins at a position: face numbers of a job of so many faces

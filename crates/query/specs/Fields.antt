@@ -11,7 +11,7 @@ use Rattle.font.specs.Tables.{u16At, u32At}
 use Rattle.font.specs.Collection.{isCollection, headerFits, fontCount}
 use Rattle.font.specs.Font.{fontRefusal}
 use Rattle.query.specs.declared.fields.At.{At}
-use Rattle.query.specs.Reader.{Refusal, pastEnd, overLimit, notHeld, badDirectory, noCharmap, manyAxes, noFace, unknown, badNumber, noFont, Reader, refused, got, done, field, tested, many, _>>=_}
+use Rattle.query.specs.Reader.{Refusal, pastEnd, overLimit, notHeld, badDirectory, noCharmap, manyAxes, noFace, unknown, badNumber, noFont, damagedTable, Reader, refused, got, done, field, tested, many, _>>=_}
 
 -- fields of 1, 2 and 4 bytes
 unfoldable pub byte : Reader ℕ
@@ -85,9 +85,9 @@ pub record NumberedFont : Type 0 where
   pub file : List ℕ
   pub number : ℕ
 
--- 21 to 23, by the font layer's number; 30 is met before, at the font number
+-- 21, 31, 22 and 23, by the font layer's number; 30 is met before, at the font number
 unfoldable pub fontRow : ℕ → Refusal
-fontRow n = cond (eqb n 21) badDirectory (cond (eqb n 22) noCharmap manyAxes)
+fontRow n = cond (eqb n 21) badDirectory (cond (eqb n 31) damagedTable (cond (eqb n 22) noCharmap manyAxes))
 
 -- the bytes of a font file; past the end they are refused at the length field
 unfoldable pub fontBytes : ℕ → ℕ → Reader (List ℕ)

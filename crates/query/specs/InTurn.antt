@@ -1,14 +1,15 @@
--- Collections in a job, as one statement beside the reader `fontFile`: in which turn a face entry's font is refused, and where. The length field lies at p. What is met
+-- Statements beside the reader `fontFile`: in which turn a face entry's font is refused, and where; a collection's, and one that loses a table. The length field lies at p. What is met
 -- later can stand at an earlier byte: "30, placed at the number .. after the 12 header bytes are found and then the number itself, whose lack is 18, before any other 21".
 use Prim.Native.Nat.{ℕ, _+_, _*_, _≤_, _<_}
 use mathlib.Core.Path.{_≡_}
-use mathlib.Core.Bool.{true}
+use mathlib.Core.Bool.{true, false}
 use mathlib.Core.List.{List}
 use lib.ListN.{length, take, drop}
 use Rattle.font.specs.Tables.{u16At, u32At}
 use Rattle.font.specs.Collection.{isCollection}
 use Rattle.font.specs.Font.{refusalAt}
-use Rattle.query.specs.Reader.{pastEnd, badDirectory, noFont, refused, got}
+use Rattle.font.specs.Damage.{LosesNumbered}
+use Rattle.query.specs.Reader.{pastEnd, badDirectory, noFont, damagedTable, refused, got}
 use Rattle.query.specs.Fields.{fontRow, fontFile}
 
 module _ (s : List ℕ) (p : ℕ) where
@@ -46,3 +47,8 @@ module _ (s : List ℕ) (p : ℕ) where
     pub font : end + 2 ≤ length s → asked < stated → 12 + 4 * stated ≤ length file → (refusalAt file start ≡ 0 → ⊥) → fontFile s p ≡ refused (fontRow (refusalAt file start)) p
     pub taken : end + 2 ≤ length s → asked < stated → 12 + 4 * stated ≤ length file → refusalAt file start ≡ 0
         → fontFile s p ≡ got (record { file = file; number = asked }) (end + 2)
+
+  -- 31: "a needed table is damaged; after 21 and before 22". A font that is there and loses what it needs is refused so, at its length field, whatever else is wrong with it.
+  pub record LostInTurn : Type 0 where
+    pub lone : end ≤ length s → isCollection file ≡ false → LosesNumbered file 0 → fontFile s p ≡ refused damagedTable p
+    pub in-collection : end + 2 ≤ length s → isCollection file ≡ true → LosesNumbered file asked → fontFile s p ≡ refused damagedTable p

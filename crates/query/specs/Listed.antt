@@ -23,9 +23,9 @@ use Rattle.query.specs.Positions.{LiesAt}
 use Rattle.query.specs.Call.{withoutOffer, withSynthesis, answered}
 use Rattle.query.specs.Job.{jobOf}
 use Rattle.query.specs.View.{viewOf}
-use Rattle.query.specs.Values.{requestAt}
+use Rattle.query.specs.Values.{faceAt, requestAt}
 use Rattle.query.specs.Offers.{membersOf, familyOffers, numberOffers, offers, offersOf, faceOfOffer, offerAt}
-use Rattle.query.specs.CallTables.{heldRow, OfferedFace}
+use Rattle.query.specs.CallTables.{heldRow, FontTaken, OfferedFace}
 
 -- a family of at most 64 faces, each with one of so many rows, as it lies at a position
 pub record MembersKnown (s : List ℕ) (p rows : ℕ) : Type 0 where
@@ -94,6 +94,7 @@ pub record Readable (s : List ℕ) (f : SearchResult) : Type 0 where
   pub section : f .section < 2 ^ 31
   pub overrides : u16At s (f .section) ≤ mostOverrides
   pub entry : f .entry < 2 ^ 62
+  pub taken : FontTaken (faceAt s (f .entry) .font)
 
 -- an offer was found, with where its face lies, for a request of these attributes
 pub record Locates (s : List ℕ) (o : Offer) (wanted : Attributes) (f : SearchResult) : Type 0 where

@@ -8,9 +8,9 @@ use lib.Dec.{leb}
 use Rattle.query.specs.declared.fields.At.{At}
 
 infixl 20 _>>=_
--- the rows of the table that a job alone can meet: 17 to 27, and 30
+-- the rows of the table that a job alone can meet: 17 to 27, 30 and 31
 pub data Refusal : Type 0 where
-  overlong pastEnd overLimit notHeld badDirectory noCharmap manyAxes noFace unknown badNumber bytesLeft noFont : Refusal
+  overlong pastEnd overLimit notHeld badDirectory noCharmap manyAxes noFace unknown badNumber bytesLeft noFont damagedTable : Refusal
 
 -- the table's column "No."
 unfoldable pub number : Refusal → ℕ
@@ -26,6 +26,7 @@ number unknown = 25
 number badNumber = 26
 number bytesLeft = 27
 number noFont = 30
+number damagedTable = 31
 
 pub data Got (A : Type 0) : Type 0 where
   refused : Refusal → ℕ → Got A

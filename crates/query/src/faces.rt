@@ -5,8 +5,8 @@ ghost use Prim.Native.Nat.{_+_, _^_, _≤_, _<_, min};
 ghost use Rattle.font.specs.Tables.{u16At};
 ghost use Rattle.query.specs.Sizes.{mostOverrides};
 ghost use Rattle.query.specs.View.{overriddenBy};
-ghost use Rattle.query.specs.Values.{fileAt, fileEnd, givenAt, pairsAt, overrideAt, overrideEnd};
-ghost use Rattle.query.specs.CallTables.{afterPairs, FaceOverridden, OfferedFace};
+ghost use Rattle.query.specs.Values.{fileAt, fileEnd, faceAt, givenAt, pairsAt, overrideAt, overrideEnd};
+ghost use Rattle.query.specs.CallTables.{FontTaken, afterPairs, FaceOverridden, OfferedFace};
 use crate::fields;
 use crate::sizes;
 use crate::values::number_at;
@@ -15,6 +15,7 @@ use font::attributes::FontStyle;
 use font::attributes::FontWeight;
 use font::attributes::FontWidth;
 use font::font::FontInfo;
+use font::font::read_font;
 use font::overrides;
 use font::overrides::FontInfoOverride;
 use font::overrides::StyleOverride;
@@ -161,12 +162,12 @@ fn overridden(job: &[u8], at: usize, count: usize, number: usize, font: FontInfo
 // The face of a number whose entry lies at `entry`, after the overrides, whose section lies at `section`.
 pub(crate) fn offered_face(job: &[u8], section: usize, entry: usize, number: usize) -> FontInfo
     requires { ⌜ (section < 2 ^ 31) × (entry < 2 ^ 62) × (u16At (now job) section ≤ mostOverrides) ⌝ }
+    requires { ⌜ FontTaken (faceAt (now job) entry .font) ⌝ }
     ensures { λ r. ⌜ OfferedFace (now (job .entry)) section entry number r ⌝ }
 {
     let file = file_at(job, entry);
     let behind = fields::behind_file(job, file_end(job, entry), file);
-    let checked = FontInfo::from_font_ref(file, behind.number);
-    let font = checked.font;
+    let font = read_font(file, behind.number);
     let count = tables::u16_at(job, section) as usize;
     overridden(job, section + 2, count, number, font)
 }

@@ -2,6 +2,7 @@
 ghost use mathlib.Core.Path.{_≡_};
 ghost use Prim.Native.Nat.{ℕ, _^_, _≤_, _<_};
 ghost use lib.ListN.{length, getD};
+ghost use Rattle.font.specs.Font.{fontRefusal};
 ghost use Rattle.query.specs.Sizes.{mostOverrides, mostFamilies};
 ghost use Rattle.query.specs.Values.{fileAt, fileEnd, numberBehind};
 ghost use Rattle.query.specs.CallTables.{bitOf, rowAt, withWidth, withStyle, withWeight, rowOverridden, FacesLie, RowsAt, RowsOverridden, nowhere, Room, LoadAnswer};
@@ -40,6 +41,7 @@ fn bit_of(b: bool) -> u32
 // The row of the face whose entry lies at a position, before its overrides, by its file and font number.
 fn row_at(job: &[u8], at: usize, file: &[u8], number: u16) -> Row
     requires { ⌜ (at < 2 ^ 30) × (now file ≡ fileAt (now job) at) × (number ≡ numberBehind (now job) (fileEnd (now job) at) (now file)) ⌝ }
+    requires { ⌜ fontRefusal (now file) number ≡ 0 ⌝ }
     ensures { λ r. ⌜ r ≡ rowAt (now (job .entry)) at ⌝ }
 {
     let held = bit_of(fields::byte_at(job, at) == 1);

@@ -4,7 +4,7 @@ use mathlib.Core.Path.{refl}
 use native.Mathlib.Omega.{arith}
 use Rattle.query.proofs.Checks.{short-job}
 use Rattle.query.proofs.JobTables.{counted-at}
-use Rattle.query.proofs.NamedFaces.{family-few, number-has-row, entry-inside, face-named}
+use Rattle.query.proofs.NamedFaces.{family-few, number-has-row, entry-inside, entry-taken, face-named}
 use borrow.Author.Needs.{needs}
 use Rattle.query.proofs.call.place_of_face.Statement.{statement}
 use Rattle.query.proofs.call.place_of_face.Tie as tie
@@ -67,7 +67,7 @@ returns c =
       found = refl;
       offer = refl;
       wanted-is = refl;
-      readable = record { section = omega arith; overrides = section .few; entry = omega arith };
+      readable = record { section = omega arith; overrides = section .few; entry = omega arith; taken = entry-taken loaded names begins (number .u16-at .ensures) (c .wide2 .ensures .0) };
       face = λ font. face-named loaded names begins (number .u16-at .ensures) (c .wide2 .ensures .0) (start .pre .0 .1);
     }
 

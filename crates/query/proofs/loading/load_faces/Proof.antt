@@ -5,7 +5,7 @@ use Prim.Native.Nat.{_-_, _≤_}
 use native.Mathlib.Omega.{arith}
 use Rattle.query.specs.declared.fields.Behind.{Behind}
 use Rattle.query.proofs.FacesAt.{file-part, number-there, part-end}
-use Rattle.query.proofs.RowsAfter.{FacesLeft, faces-first, place-low, file-inside, face-passed, faces-last}
+use Rattle.query.proofs.RowsAfter.{FacesLeft, faces-first, place-low, file-inside, font-there, face-passed, faces-last}
 use borrow.Author.Needs.{needs}
 use Rattle.query.proofs.loading.load_faces.Statement.{statement}
 use Rattle.query.proofs.loading.load_faces.Tie as tie
@@ -53,7 +53,11 @@ row-at-requires : tie.Need-row-at-requires Inv-loop μ-loop
 row-at-requires c κs =
     let l = c .before .before .before in
     let end = c .before .before .file-end .ensures .0 in
-    (omega (arith, place-low (l .loop-test .taken) (l .before .loop .inv .1) (l .before .before .before .pre .0)), file-part _ _ _ end, number-there _ _ _ (c .behind-file .ensures) end)
+    let left = l .before .loop .inv .1 in
+    let lie = l .before .before .before .pre .0 in
+    let file = file-part _ _ _ end in
+    let number = number-there _ _ _ (c .behind-file .ensures) end in
+    ((omega (arith, place-low (l .loop-test .taken) left lie), file, number), font-there (l .loop-test .taken) left lie file number)
 
 mul-row : tie.Need-mul-row Inv-loop μ-loop
 mul-row c = search needs

@@ -30,7 +30,7 @@ bit-of-requires : tie.Need-bit-of-requires
 bit-of-requires c κs = search needs
 
 read-stated-requires : tie.Need-read-stated-requires
-read-stated-requires c κs = search needs
+read-stated-requires c κs = c .before .before .before .before .pre .1
 
 bit-of-requires-2 : tie.Need-bit-of-requires-2
 bit-of-requires-2 c κs = search needs
@@ -58,7 +58,7 @@ unfolding slnt
 returns c =
     let stated = c .before .before .before in
     let start = stated .before .before in
-    let given = start .before .before .before .pre in
+    let given = start .before .before .before .pre .0 in
     c .row .ensures
     ∙ row-of _ _ (given .1) (given .2) (stated .read-stated .ensures) (stated .before .bit-of .ensures .0 ∙ ap (λ (b : ℕ). bitOf (eqb b 1)) (start .byte-at .ensures)) (c .before .before .bit-of2 .ensures .0)
 
