@@ -1,8 +1,8 @@
 // Reads a list of fonts from standard input, and prints a line for each: what the font reading gives, or its refusal.
 //
 // The files `stdin` and `stdout` of this crate are what `cargo run --release -- fonts --out DIR` writes in
-// `rust/reference`: the list, and what the original sources answer on it. `rust/README.md` says what both hold, in
-// "The list of fonts".
+// `rust/reference`: the list, and what the original sources answer on it, or `rust/plain` for a font that is refused with
+// 31, since the original takes a damaged table for absent. `rust/README.md` says what both hold, in "The list of fonts".
 use font::attributes::Angle;
 use font::attributes::Attributes;
 use font::attributes::FontStyle;

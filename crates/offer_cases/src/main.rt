@@ -2,8 +2,8 @@
 // with the charmap index of each offer.
 //
 // The files `stdin` and `stdout` of this crate are what `cargo run --release -- jobs --out DIR` writes in
-// `rust/reference`: the list, and what the original sources answer on it. `rust/README.md` says what both hold, in
-// "The list of jobs".
+// `rust/reference`: the list, and the offers of the original sources for it; refusals are those of `rust/plain`, which
+// are compared with the original's where it has any. `rust/README.md` says what both hold, in "The list of jobs".
 ghost use Prim.Native.Nat.{_^_, _<_, _≤_};
 use font::tables;
 use libc::STDIN_FILENO;

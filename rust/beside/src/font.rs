@@ -3,7 +3,7 @@
 
 use jobs::{
     bytes::{fonts_stated, hex},
-    counts::numbers,
+    counts::{Asked, numbers},
     font_list::{self, put},
     fonts::{Numbered, random_file},
     random::Random,
@@ -17,10 +17,19 @@ fn by_plain((file, number): &Numbered) -> String {
     lines::font(&font::read(file, *number))
 }
 
+/// The plain reading's line of a font in which a needed table is damaged.
+const DAMAGED: &str = "refused 31";
+
+/// The original's line of a font that the plain reading says this of; none
+/// where the original is not here, and none of a font that is left out.
+fn by_original(font: &Numbered, plain: &str) -> Option<String> {
+    original::font(font).filter(|_| plain != DAMAGED)
+}
+
 /// The line that all sides have to give; none where the original has another.
 fn expected(font: &Numbered) -> Option<String> {
     let plain = by_plain(font);
-    let same = original::font(font).is_none_or(|line| line == plain);
+    let same = by_original(font, &plain).is_none_or(|line| line == plain);
     same.then_some(plain)
 }
 
@@ -33,12 +42,18 @@ pub struct Counts {
     pub collected: u64,
     pub varying: u64,
     /// By the table's number.
-    pub refused: [u64; 31],
+    pub refused: [u64; 32],
+    pub asked: Asked,
 }
 
 impl Counts {
     fn add(&mut self, (file, _): &Numbered, line: &str) {
         self.fonts += 1;
+        if line == DAMAGED {
+            self.asked.left_out += 1;
+        } else {
+            self.asked.fonts += 1;
+        }
         match line.strip_prefix("refused ") {
             Some(number) => self.refused[number.parse().unwrap_or(0)] += 1,
             None => {
@@ -51,12 +66,13 @@ impl Counts {
 
     pub fn text(&self) -> String {
         format!(
-            "fonts {} read {} from collections {} with axes {} refused{}\n",
+            "fonts {} read {} from collections {} with axes {} refused{}\n{}",
             self.fonts,
             self.read,
             self.collected,
             self.varying,
-            numbers(&self.refused)
+            numbers(&self.refused),
+            original::asked_text(&self.asked),
         )
     }
 }
@@ -126,13 +142,14 @@ fn printed(program: &Program, font: &Numbered) -> String {
 fn tell(program: &Program, font: &Numbered) -> String {
     let least = shrink::font(font, |font| Some(printed(program, font)) != expected(font));
     let alone = shrink::alone(Some(printed(program, &least)) != expected(&least));
+    let plain = by_plain(&least);
     format!(
         "difference in font {} of a file of {} bytes{alone}: {}\nthe guide (plain): {}\nthe original: {}\nthe proved code: {}",
         least.1,
         least.0.len(),
         hex(&least.0),
-        by_plain(&least),
-        original::font(&least).unwrap_or("nothing".into()),
+        plain,
+        by_original(&least, &plain).unwrap_or("nothing".into()),
         printed(program, &least)
     )
 }
@@ -142,14 +159,23 @@ mod tests {
     use super::*;
     use crate::program::FONT_CASES;
 
+    /// They differ in the fonts that are left out, and in no other.
     #[cfg(feature = "original")]
     #[test]
     fn plain_and_original() {
         let mut r = Random::new(8);
+        let mut left_out = 0;
         for _ in 0..3000 {
             let font = random_file(&mut r);
-            assert_eq!(original::font(&font), Some(by_plain(&font)));
+            let plain = by_plain(&font);
+            if plain == DAMAGED {
+                assert_ne!(original::font(&font), Some(plain));
+                left_out += 1;
+            } else {
+                assert_eq!(original::font(&font), Some(plain));
+            }
         }
+        assert!((300..1000).contains(&left_out), "{left_out}");
     }
 
     #[test]
@@ -161,6 +187,9 @@ mod tests {
                 .iter()
                 .all(|number| counts.refused[*number] > 0)
         );
+        let Asked { fonts, left_out } = counts.asked;
+        assert_eq!(left_out, counts.refused[31]);
+        assert!(fonts + left_out == 5000 && left_out > 500 && fonts > 3000);
         assert!(counts.read > 1000 && counts.varying > 100 && counts.collected > 100);
     }
 
@@ -204,5 +233,56 @@ mod tests {
         };
         let (size, told) = told(wrong, 30, 21);
         assert_eq!(size, 12, "{told}");
+    }
+    /// So is a damaged table that is taken for absent, or refused in another turn.
+    #[test]
+    fn wrong_damage_is_told() {
+        let late = Program {
+            run: |_, list| {
+                let text = (FONT_CASES.run)(&FONT_CASES, list)?;
+                Ok(text.replace(DAMAGED, "refused 22"))
+            },
+            ..FONT_CASES
+        };
+        // Little more than the directory is left.
+        let (size, told) = told(late, 31, 22);
+        assert!(size < 100, "{told}");
+        let absent = Program {
+            run: |_, list| {
+                let text = (FONT_CASES.run)(&FONT_CASES, list)?;
+                let read = "read 3f800000 0 00000000 43c80000 54 0 0 0";
+                Ok(text.replace(DAMAGED, read))
+            },
+            ..FONT_CASES
+        };
+        let told = compare(&absent, 3, 5000).err().expect("a difference");
+        assert!(told.contains("the guide (plain): refused 31"), "{told}");
+        assert!(told.contains("the original: nothing"), "{told}");
+        assert!(told.contains("the proved code: read "), "{told}");
+    }
+
+    /// The original in the place of the proved code is told, by a font that is
+    /// left out of the comparison with it.
+    #[cfg(feature = "original")]
+    #[test]
+    fn original_is_told() {
+        let wrong = Program {
+            run: |_, list| {
+                let mut rest = list;
+                let mut text = String::new();
+                while let Some((length, more)) = rest.split_first_chunk() {
+                    let (file, more) = more.split_at(u32::from_be_bytes(*length) as usize);
+                    let (number, more) = more.split_first_chunk().expect("a number");
+                    let font = (file.to_vec(), u16::from_be_bytes(*number));
+                    text += &original::font(&font).expect("the original is here");
+                    text.push('\n');
+                    rest = more;
+                }
+                Ok(text)
+            },
+            ..FONT_CASES
+        };
+        let told = compare(&wrong, 3, 5000).err().expect("a difference");
+        assert!(told.contains("the guide (plain): refused 31"), "{told}");
     }
 }

@@ -5,7 +5,12 @@ use std::{
     panic::{self, AssertUnwindSafe},
 };
 
-use jobs::{bytes::hex, counts, layout, list::Case};
+use jobs::{
+    bytes::hex,
+    counts::{self, Asked},
+    layout,
+    list::Case,
+};
 use stemhook::limits::{OFFER_BYTES, REQUESTS};
 
 use crate::{
@@ -166,9 +171,10 @@ pub struct Counts {
 }
 
 impl Counts {
-    fn add(&mut self, said: &Said, case: &Case) {
+    fn add(&mut self, said: &Said, asked: Asked, case: &Case) {
         let (number, position) = said.answer();
         self.all.job(case.expected, number, position);
+        self.all.asked.add(asked);
         if let Said::Offers(lists) = said {
             let job = layout::parts(&case.bytes);
             self.all.faces(&job.expect("an accepted job has its parts"));
@@ -183,8 +189,9 @@ impl Counts {
     pub fn text(&self) -> String {
         let (all, longest) = (&self.all, self.longest);
         format!(
-            "{}{}\nrequests {} {} longest list {longest}\n",
+            "{}{}{}\nrequests {} {} longest list {longest}\n",
             all.jobs_text(),
+            original::asked_text(&all.asked),
             all.faces_text(),
             all.requests,
             all.offers_text(),
@@ -211,8 +218,8 @@ impl Sides {
     /// Compares the sides on one job. An error tells the smallest job that
     /// was found to differ, and what each side says of it.
     pub fn compare(&mut self, case: &Case) -> Result<(), String> {
-        let said = match self.agree(&case.bytes) {
-            Ok(said) => said,
+        let (said, asked) = match self.agree(&case.bytes) {
+            Ok(agreed) => agreed,
             Err(difference) => {
                 let least = shrink::job(&case.bytes, |job| self.agree(job).is_err());
                 let text = self.tell(&least);
@@ -231,31 +238,32 @@ impl Sides {
                 self.tell(&case.bytes)
             ));
         }
-        self.counts.add(&said, case);
+        self.counts.add(&said, asked, case);
         Ok(())
     }
 
-    /// What all sides say of a job, or where they differ. A panic is a difference.
-    fn agree(&self, job: &[u8]) -> Result<Said, String> {
+    /// What all sides say of a job, and what the original was asked for, or
+    /// where they differ. A panic is a difference.
+    fn agree(&self, job: &[u8]) -> Result<(Said, Asked), String> {
         let agreed = panic::catch_unwind(AssertUnwindSafe(|| self.same(job)));
         agreed.unwrap_or_else(|_| Err("a panic".into()))
     }
 
-    fn same(&self, job: &[u8]) -> Result<Said, String> {
+    fn same(&self, job: &[u8]) -> Result<(Said, Asked), String> {
         let plain = Said::by_plain(job);
         let ours = self.calls.said(job)?;
         if ours != plain {
             return Err("the proved code and plain differ".into());
         }
         let (number, position) = ours.answer();
-        original::fonts_agree(job, number, position)?;
+        let asked = original::fonts_agree(job, number, position)?;
         if let Said::Offers(lists) = &ours
             && let Some(by_original) = self.original.lists(job)
             && *lists != by_original?
         {
             return Err("the proved code and the original differ".into());
         }
-        Ok(ours)
+        Ok((ours, asked))
     }
 
     /// The job and what each side says of it.

@@ -1,17 +1,24 @@
 //! What the original says; nothing where it is not compiled, so that nothing
 //! is taken for its word.
 
+use jobs::counts::Asked;
+
 use crate::job::Lists;
 
 /// Whether the original is here.
 pub const HERE: bool = cfg!(feature = "original");
+
+/// What it was asked for, as a line; none where it is not here.
+pub fn asked_text(asked: &Asked) -> String {
+    if HERE { asked.text() } else { String::new() }
+}
 
 /// The bytes of a family and its line, with synthesis on and then off.
 pub type Family = [(Vec<u8>, String); 2];
 
 #[cfg(feature = "original")]
 mod here {
-    use jobs::{families::Case, fonts::Numbered, overrides};
+    use jobs::{counts::Asked, families::Case, fonts::Numbered, overrides};
     use reference::{describe, families, offers::Harness};
 
     use super::{Family, Lists};
@@ -26,8 +33,9 @@ mod here {
         }
     }
 
-    /// Whether its word on the job's fonts fits the answer.
-    pub fn fonts_agree(job: &[u8], number: u32, position: usize) -> Result<(), String> {
+    /// Whether its word on the job's fonts fits the answer, but for a font
+    /// that is refused with 31; and how many it was asked for.
+    pub fn fonts_agree(job: &[u8], number: u32, position: usize) -> Result<Asked, String> {
         reference::offers::fonts_agree(job, number, position)
     }
 
@@ -39,7 +47,7 @@ mod here {
         }))
     }
 
-    /// The line of a font.
+    /// The line of a font. It takes a damaged table for absent.
     pub fn font((file, number): &Numbered) -> Option<String> {
         Some(describe::line(file, *number))
     }
@@ -52,7 +60,7 @@ mod here {
 
 #[cfg(not(feature = "original"))]
 mod here {
-    use jobs::{families::Case, fonts::Numbered, overrides};
+    use jobs::{counts::Asked, families::Case, fonts::Numbered, overrides};
 
     use super::{Family, Lists};
 
@@ -65,8 +73,8 @@ mod here {
         }
     }
 
-    pub fn fonts_agree(_job: &[u8], _number: u32, _position: usize) -> Result<(), String> {
-        Ok(())
+    pub fn fonts_agree(_job: &[u8], _number: u32, _position: usize) -> Result<Asked, String> {
+        Ok(Asked::default())
     }
 
     pub fn family(_case: &Case) -> Option<Family> {

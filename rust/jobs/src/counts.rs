@@ -11,7 +11,7 @@ pub struct Counts {
     pub jobs: u64,
     pub accepted: u64,
     /// By the table's number.
-    pub refused: [u64; 31],
+    pub refused: [u64; 32],
     /// Jobs whose answer is the one known by how they were built.
     pub known: u64,
     /// Faces of accepted jobs, and those of them from collections.
@@ -21,6 +21,28 @@ pub struct Counts {
     pub offers: u64,
     /// Offers with embolden, a skew, or settings.
     pub synthesized: u64,
+    pub asked: Asked,
+}
+
+/// Fonts that the original was asked for, and those that were left out: what
+/// it says of a font that is refused with 31 is not compared.
+#[derive(Copy, Clone, Default, PartialEq, Eq, Debug)]
+pub struct Asked {
+    pub fonts: u64,
+    pub left_out: u64,
+}
+
+impl Asked {
+    pub fn add(&mut self, more: Self) {
+        self.fonts += more.fonts;
+        self.left_out += more.left_out;
+    }
+
+    /// A line.
+    pub fn text(&self) -> String {
+        let Self { fonts, left_out } = self;
+        format!("fonts beside the original {fonts} left out for 31 {left_out}\n")
+    }
 }
 
 impl Counts {

@@ -1,11 +1,11 @@
 //! Ways to damage a job, with what each has to be refused for.
 
-use plain::job::{FACES, FAMILIES};
+use plain::job::{FACES, FAMILIES, OVERRIDES};
 
 use crate::{
     bytes::{fonts_stated, get32},
-    fonts,
-    layout::{Field, Kind, Written},
+    damaged, fonts, generate,
+    layout::{Face, Field, Job, Kind, Written, write},
     random::Random,
 };
 
@@ -24,10 +24,15 @@ pub enum Expected {
 
 use Expected::{Accepted, AtNumber, Refused, Unknown};
 
+/// Whether a refusal is one of a font file.
+pub const fn is_font(number: u32) -> bool {
+    matches!(number, 21..=23 | 30 | 31)
+}
+
 impl Expected {
     /// Whether an answer, 0 for an accepted job, can be the right one.
     pub fn allows(self, number: u32, position: usize) -> bool {
-        let font = matches!(number, 21..=23 | 30);
+        let font = is_font(number);
         match self {
             Unknown => true,
             Accepted => number == 0 || font,
@@ -392,4 +397,37 @@ fn font(r: &mut Random, written: &Written) -> (Vec<u8>, Expected) {
     bytes.extend(file);
     bytes.extend(&written.bytes[field.at + field.size..]);
     (bytes, Accepted)
+}
+
+/// Gives a job a face with damaged tables, in the place of another if there is
+/// one. Half of these faces are not held, and half have every attribute
+/// overridden: neither changes the refusal.
+pub fn tables(r: &mut Random, mut job: Job) -> (Vec<u8>, Expected) {
+    let ((font, number), refused) = damaged::random(r);
+    let face = Face {
+        held: r.chance(1, 2),
+        font,
+        number,
+    };
+    let place = r.below(job.faces.len().max(1));
+    match job.faces.get_mut(place) {
+        Some(other) => *other = face,
+        None => job.faces.push(face),
+    }
+    if r.chance(1, 2) && job.overrides.len() < OVERRIDES as usize {
+        job.overrides.push(generate::full_override(r, place));
+    }
+    let written = write(&job);
+    let expected = match refused {
+        0 => Accepted,
+        _ => Refused(refused, length_of(&written, place)),
+    };
+    (written.bytes, expected)
+}
+
+/// Where the length of a face's font stands.
+pub fn length_of(written: &Written, face: usize) -> usize {
+    let fields = written.fields.iter();
+    let mut lengths = fields.filter(|field| field.kind == Kind::Length);
+    lengths.nth(face).expect("a face of the job").at
 }

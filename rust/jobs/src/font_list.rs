@@ -8,11 +8,12 @@ use crate::{
 
 mod cmap;
 mod collections;
+mod damaged;
 mod fvar;
 mod states;
 
 /// How many fonts of the list are made at random.
-const RANDOM_FONTS: usize = 360;
+const RANDOM_FONTS: usize = 240;
 
 #[derive(Default)]
 pub struct List {
@@ -57,6 +58,7 @@ pub fn list(seed: u64) -> List {
     cmap::cmap_shapes(&mut list);
     orders_of_refusal(&mut list);
     collections::collections(&mut list);
+    damaged::damaged_tables(&mut list);
     let mut r = Random::new(seed);
     for i in 0..RANDOM_FONTS {
         let font = random_file(&mut r);

@@ -1,6 +1,6 @@
 //! Small random fonts and ways to damage one.
 
-use crate::{bytes::*, numbers::TAGS, random::Random};
+use crate::{bytes::*, damaged, numbers::TAGS, random::Random};
 
 /// The pairs that docs/GUIDE.md names (section 2), class by class.
 pub const CLASSES: [&[(u16, u16)]; 4] = [
@@ -125,8 +125,12 @@ fn random_member(r: &mut Random) -> Member {
 /// A font file and the number of a font in it.
 pub type Numbered = (Vec<u8>, u16);
 
-/// A small font by itself, or in one of six a collection.
+/// A small font by itself, or in one of six a collection; in one of sixteen
+/// one whose damaged tables are known.
 pub fn random_file(r: &mut Random) -> Numbered {
+    if r.chance(1, 16) {
+        return damaged::random(r).0;
+    }
     if r.chance(1, 6) {
         return random_collection(r);
     }
@@ -302,10 +306,15 @@ pub fn damage(r: &mut Random, bytes: &mut Vec<u8>, tables: usize) {
     }
 }
 
-/// A table's offset or length a little off.
+/// A table's offset or length a little off, or far.
 fn damage_record(r: &mut Random, bytes: &mut [u8], tables: usize) {
     let number = r.below(tables);
-    let by = r.pick(&[1, 2, 4, 0u32.wrapping_sub(1), 0u32.wrapping_sub(2)]);
+    let near = [1, 2, 4, 0u32.wrapping_sub(1), 0u32.wrapping_sub(2)];
+    let by = if r.chance(1, 6) {
+        r.pick(&[0xffff, 1 << 24, 1 << 31])
+    } else {
+        r.pick(&near)
+    };
     if r.chance(1, 2) {
         let offset = offset(bytes, number).wrapping_add(by);
         set_offset(bytes, number, offset);

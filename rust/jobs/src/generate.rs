@@ -7,7 +7,7 @@ use crate::{
     },
     fonts::{CLASSES, font_number, random_file, random_last},
     layout::{Face, Job, Override, Request, Style},
-    numbers::{BANDS, TAGS, nearby, some, style, weight},
+    numbers::{BANDS, TAGS, nearby, ratio, some, style, weight},
     pools::{Pools, near},
     random::Random,
 };
@@ -197,17 +197,9 @@ fn font(r: &mut Random, fonts: Fonts<'_>) -> Member {
         ..
     } = fonts;
     let mut tables: Vec<Table> = vec![(*b"cmap", small_cmap(r))];
-    if !bare && r.chance(3, 10) {
-        let weight = r.pick(&[100, 300, 400, 400, 500, 700, 900, 65535]);
-        let width = r.pick(&[0, 1, 3, 4, 5, 5, 5, 6, 8, 9]);
-        let selection = r.pick(&[0, 0, 0, 1, 0x0200, 0x0201]);
-        tables.push((*b"OS/2", os2(weight, width, selection)));
-        if selection == 0x0200 && r.chance(2, 3) {
-            let angle = r.pick(&[0x000e_0000, 0xfff2_0000, 0x0014_0000, 0, 0xfff4_8000]);
-            tables.push((*b"post", post(angle)));
-        }
-    } else if !bare && r.chance(1, 6) {
-        tables.push((*b"head", head(r.below(4) as u16)));
+    let mut unneeded = Vec::new();
+    if !bare {
+        unneeded = attribute_tables(r, &mut tables);
     }
     let mut axes = axes(r, spread, pools);
     // Just within the limit, or over it.
@@ -219,14 +211,60 @@ fn font(r: &mut Random, fonts: Fonts<'_>) -> Member {
     }
     if !axes.is_empty() || r.chance(1, 20) {
         tables.push((*b"fvar", fvar(&axes)));
+        // Cut in its header it gives no axes.
+        if r.chance(1, 40) {
+            let last = tables.last_mut().expect("the table");
+            cut(r, last, 16);
+        }
     }
     if r.chance(1, 20) {
         tables.push((*b"name", filler(r.below(8), 11)));
     }
     let turn = r.below(tables.len());
     tables.rotate_left(turn);
+    // Behind the others, some of which may have the tag.
+    tables.extend(unneeded);
     let start = r.pick(&[START, START, START, *b"OTTO", *b"true"]);
     (start, tables)
+}
+
+/// Puts the tables of the attributes, or none. Gives what may stand behind
+/// them though it is damaged: nothing of it is needed.
+fn attribute_tables(r: &mut Random, tables: &mut Vec<Table>) -> Vec<Table> {
+    let mut unneeded: Vec<Table> = Vec::new();
+    if r.chance(3, 10) {
+        let weight = r.pick(&[100, 300, 400, 400, 500, 700, 900, 65535]);
+        let width = r.pick(&[0, 1, 3, 4, 5, 5, 5, 6, 8, 9]);
+        let selection = r.pick(&[0, 0, 0, 1, 0x0200, 0x0201]);
+        tables.push((*b"OS/2", os2(weight, width, selection)));
+        if selection != 0x0200 {
+            unneeded.push((*b"post", post(0)));
+        } else if r.chance(2, 3) {
+            let angle = r.pick(&[0x000e_0000, 0xfff2_0000, 0x0014_0000, 0, 0xfff4_8000]);
+            tables.push((*b"post", post(angle)));
+            unneeded.push((*b"post", post(0)));
+        }
+        unneeded.push((*b"head", head(3)));
+        unneeded.push((*b"OS/2", os2(1, 1, 1)));
+    } else if r.chance(1, 6) {
+        tables.push((*b"head", head(r.below(4) as u16)));
+        unneeded.push((*b"head", head(3)));
+        unneeded.push((*b"post", post(0)));
+    } else {
+        unneeded.push((*b"post", post(0)));
+    }
+    unneeded.retain(|_| r.chance(1, 16));
+    for table in &mut unneeded {
+        let needed = table.1.len();
+        cut(r, table, needed);
+    }
+    unneeded
+}
+
+/// Leaves less of a table than is needed.
+fn cut(r: &mut Random, (_, bytes): &mut Table, needed: usize) {
+    let any = r.below(needed);
+    bytes.truncate(r.pick(&[0, 1, needed - 1, needed - 1, any]));
 }
 
 fn override_entry(r: &mut Random, face: usize, pools: &Pools) -> Override {
@@ -377,6 +415,17 @@ fn request(r: &mut Random, shape: Shape, families: usize, pools: &Pools) -> Requ
         weight: weight.to_bits(),
         families: list(r, shape, families, 4),
         fallbacks: list(r, shape, families, 2),
+    }
+}
+
+/// An override of every attribute.
+pub fn full_override(r: &mut Random, face: usize) -> Override {
+    Override {
+        face: face as u16,
+        ratio: Some(ratio(r).to_bits()),
+        style: Some(style(r)),
+        weight: Some(weight(r).to_bits()),
+        pairs: Vec::new(),
     }
 }
 

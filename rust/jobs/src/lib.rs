@@ -6,6 +6,7 @@
 pub mod bytes;
 pub mod counts;
 pub mod damage;
+pub mod damaged;
 pub mod families;
 pub mod font_list;
 pub mod fonts;

@@ -11,6 +11,10 @@ use crate::{
 };
 
 mod collections;
+mod damaged;
+
+/// How many random jobs the stored list has.
+pub const RANDOM_JOBS: usize = 250;
 
 /// A job's bytes and what is known of it.
 pub struct Case {
@@ -33,6 +37,7 @@ pub fn made() -> Vec<Case> {
     limits(&mut list);
     every_field(&mut list, "every kind of field", &job_of_every_field());
     collections::jobs(&mut list);
+    damaged::jobs(&mut list);
     list.0
 }
 
@@ -86,13 +91,14 @@ pub fn random(seed: u64) -> impl Iterator<Item = Case> {
     (0..).map(move |number| random_case(&mut r, number))
 }
 
-/// More than half of them keep the layout.
+/// More than half of them keep the layout, and one in twenty has a font with
+/// damaged tables.
 fn random_case(r: &mut Random, number: usize) -> Case {
-    let written = write(&generate::job(r));
-    let (bytes, expected) = if r.chance(3, 5) {
-        (written.bytes, Expected::Accepted)
-    } else {
-        damage::random(r, &written)
+    let job = generate::job(r);
+    let (bytes, expected) = match r.below(20) {
+        0 => damage::tables(r, job),
+        1..=12 => (write(&job).bytes, Expected::Accepted),
+        _ => damage::random(r, &write(&job)),
     };
     Case {
         label: format!("random {number}"),
@@ -672,7 +678,7 @@ mod tests {
     #[test]
     fn list_is_small_and_repeats() {
         let all = |seed| -> Vec<Vec<u8>> {
-            let cases = made().into_iter().chain(random(seed).take(300));
+            let cases = made().into_iter().chain(random(seed).take(RANDOM_JOBS));
             cases.map(|case| case.bytes).collect()
         };
         let one = all(1);

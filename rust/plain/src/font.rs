@@ -122,17 +122,18 @@ pub fn count(file: &[u8]) -> u32 {
 }
 
 /// Reads the font of the number, or gives the number of its refusal: 21, 30,
-/// 22 or 23.
+/// 31, 22 or 23.
 pub fn read(file: &[u8], number: u16) -> Result<Font, u32> {
     let start = directory_start(file, number)?;
     let directory = directory(file, start).ok_or(21u32)?;
+    let attributes = attributes(file, &directory).ok_or(31u32)?;
     let charmap = charmap(file, &directory).ok_or(22u32)?;
     let axes = axes(file, &directory);
     if axes.len() > AXES {
         return Err(23);
     }
     Ok(Font {
-        attributes: attributes(file, &directory),
+        attributes,
         axes,
         charmap,
     })
@@ -207,19 +208,27 @@ fn directory(file: &[u8], start: usize) -> Option<Vec<Record>> {
     Some(records)
 }
 
-/// The offset in the file and the bytes of a table, absent as section 2 has it.
-fn table<'a>(
-    file: &'a [u8],
-    directory: &[Record],
-    tag: &Tag,
-    needed: u64,
-) -> Option<(u64, &'a [u8])> {
-    let record = directory.iter().find(|record| record.tag == *tag)?;
+/// What the directory has of a table.
+enum Table<'a> {
+    /// No record has the tag.
+    Absent,
+    /// The first record with the tag reaches past the file, or its table is
+    /// shorter than needed.
+    Damaged,
+    /// The offset in the file, and the bytes.
+    Found(u64, &'a [u8]),
+}
+
+/// The first record with the tag counts, whatever stands behind it.
+fn table<'a>(file: &'a [u8], directory: &[Record], tag: &Tag, needed: u64) -> Table<'a> {
+    let Some(record) = directory.iter().find(|record| record.tag == *tag) else {
+        return Table::Absent;
+    };
     let end = record.offset + record.length;
     if end > file.len() as u64 || record.length < needed {
-        return None;
+        return Table::Damaged;
     }
-    Some((record.offset, &file[record.offset as usize..end as usize]))
+    Table::Found(record.offset, &file[record.offset as usize..end as usize])
 }
 
 /// The width of a class.
@@ -237,40 +246,56 @@ fn ratio(width_class: u16) -> f32 {
     }
 }
 
-fn attributes(file: &[u8], directory: &[Record]) -> Attributes {
-    if let Some((_, os2)) = table(file, directory, b"OS/2", 78) {
-        let selection = u16_at(os2, 62);
-        let style = if selection & (1 << 0) != 0 {
-            Style::Italic
-        } else if selection & (1 << 9) != 0 {
-            Style::Oblique(match table(file, directory, b"post", 32) {
-                Some((_, post)) => Angle::Degrees(fixed_at(post, 4)),
-                None => Angle::Unstated,
-            })
-        } else {
-            Style::Normal
-        };
-        return Attributes {
+/// The attributes, or none where a table that they need is damaged: OS/2, or
+/// `head` where there is no OS/2, or `post` where OS/2 says oblique.
+fn attributes(file: &[u8], directory: &[Record]) -> Option<Attributes> {
+    match table(file, directory, b"OS/2", 78) {
+        Table::Damaged => None,
+        Table::Found(_, os2) => Some(Attributes {
             ratio: Single::new(ratio(u16_at(os2, 6))),
-            style,
+            style: style(u16_at(os2, 62), file, directory)?,
             weight: Single::new(f32::from(u16_at(os2, 4))),
-        };
+        }),
+        Table::Absent => mac_attributes(file, directory),
     }
+}
+
+/// The style of an fsSelection, or none where it needs a `post` that is damaged.
+fn style(selection: u16, file: &[u8], directory: &[Record]) -> Option<Style> {
+    if selection & (1 << 0) != 0 {
+        return Some(Style::Italic);
+    }
+    if selection & (1 << 9) == 0 {
+        return Some(Style::Normal);
+    }
+    match table(file, directory, b"post", 32) {
+        Table::Damaged => None,
+        Table::Found(_, post) => Some(Style::Oblique(Angle::Degrees(fixed_at(post, 4)))),
+        Table::Absent => Some(Style::Oblique(Angle::Unstated)),
+    }
+}
+
+/// The attributes without OS/2, or none where `head` is damaged.
+fn mac_attributes(file: &[u8], directory: &[Record]) -> Option<Attributes> {
+    let head = match table(file, directory, b"head", 54) {
+        Table::Damaged => return None,
+        Table::Found(_, head) => head,
+        Table::Absent => return Some(Attributes::DEFAULT),
+    };
+    let mac_style = u16_at(head, 44);
     let mut attributes = Attributes::DEFAULT;
-    if let Some((_, head)) = table(file, directory, b"head", 54) {
-        let mac_style = u16_at(head, 44);
-        if mac_style & (1 << 0) != 0 {
-            attributes.weight = Single::new(700.0);
-        }
-        if mac_style & (1 << 1) != 0 {
-            attributes.style = Style::Italic;
-        }
+    if mac_style & (1 << 0) != 0 {
+        attributes.weight = Single::new(700.0);
     }
-    attributes
+    if mac_style & (1 << 1) != 0 {
+        attributes.style = Style::Italic;
+    }
+    Some(attributes)
 }
 
 fn axes(file: &[u8], directory: &[Record]) -> Vec<Axis> {
-    let Some((_, fvar)) = table(file, directory, b"fvar", 16) else {
+    // Without axes where it is absent or damaged.
+    let Table::Found(_, fvar) = table(file, directory, b"fvar", 16) else {
         return Vec::new();
     };
     let offset = usize::from(u16_at(fvar, 4));
@@ -304,7 +329,10 @@ fn class(platform: u16, encoding: u16) -> Option<u8> {
 }
 
 fn charmap(file: &[u8], directory: &[Record]) -> Option<CharmapIndex> {
-    let (start, cmap) = table(file, directory, b"cmap", 4)?;
+    // No record qualifies where it is absent or damaged.
+    let Table::Found(start, cmap) = table(file, directory, b"cmap", 4) else {
+        return None;
+    };
     let mut best: Option<(u8, u64)> = None;
     for i in 0..usize::from(u16_at(cmap, 2)) {
         let at = 4 + 8 * i;

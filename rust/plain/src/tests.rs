@@ -13,6 +13,8 @@ use crate::{
 
 use Style::{Italic, Normal};
 
+mod damaged;
+
 const UNSTATED: Style = Style::Oblique(Angle::Unstated);
 
 const fn oblique(degrees: f32) -> Style {
@@ -633,11 +635,17 @@ fn offers_of_a_collection() {
     assert_eq!(record(&pair(2), &[0, 0])[4], 1);
 }
 
-/// What is known of the jobs with collections is the very answer.
+/// What is known of the jobs with collections and with damaged tables is the
+/// very answer.
 #[test]
-fn collections_of_the_list() {
+fn fonts_of_the_list() {
+    known_of_the_list("collection, ");
+    known_of_the_list("damaged ");
+}
+
+fn known_of_the_list(label: &str) {
     let cases = jobs::list::made().into_iter();
-    let mut cases = cases.filter(|case| case.label.starts_with("collection, "));
+    let mut cases = cases.filter(|case| case.label.starts_with(label));
     let known = |case: jobs::list::Case| {
         let (number, position) = check(&case.bytes);
         assert!(
@@ -647,7 +655,7 @@ fn collections_of_the_list() {
             case.expected
         );
     };
-    known(cases.next().expect("a job with a collection"));
+    known(cases.next().expect("a job with the label"));
     cases.for_each(known);
 }
 

@@ -1,5 +1,6 @@
 //! The plain reading beside the original, fonts and families by themselves.
 
+use jobs::damaged::{CUTS, PLANS};
 use plain::{
     font::{self, Font},
     lines::{self, Answer},
@@ -8,13 +9,35 @@ use plain::{
 use crate::{as_plain, describe, families};
 
 /// Attributes, axes, charmap index or refusal of every font of the list, by
-/// the bits of every number.
+/// the bits of every number. Those that are refused with 31 are left out.
 #[test]
 fn fonts_of_the_list() {
+    let (mut compared, mut left_out) = (0, 0);
     for seed in 1..=20 {
         for (label, (file, number)) in jobs::font_list::list(seed).fonts {
-            let plain = lines::font(&font::read(&file, number));
-            assert_eq!(describe::line(&file, number), plain, "{label}");
+            let read = font::read(&file, number);
+            if read == Err(31) {
+                left_out += 1;
+                continue;
+            }
+            compared += 1;
+            let line = describe::line(&file, number);
+            assert_eq!(line, lines::font(&read), "{label}");
+        }
+    }
+    assert!(compared > 4 * left_out && left_out > 1000, "{left_out}");
+}
+
+/// Why they are left out: the original takes a damaged table for absent.
+#[test]
+fn fonts_left_out() {
+    for plan in &PLANS {
+        for cut in CUTS {
+            let file = plan.lone(|| cut);
+            let read = font::read(&file, 0);
+            let line = describe::line(&file, 0);
+            let same = line == lines::font(&read);
+            assert_eq!(same, read != Err(31), "{} {cut:?}", plan.label);
         }
     }
 }

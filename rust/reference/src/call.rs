@@ -9,7 +9,16 @@ use plain::{
     job::{BYTES, FACES, FAMILIES, OVERRIDES, PLACES, REQUESTS},
     offers::OUTPUT,
 };
-use read_fonts::{FontRef, TableProvider as _, TopLevelTable as _, tables::cmap::Cmap, types::Tag};
+use read_fonts::{
+    FontRef, TableProvider as _, TopLevelTable as _,
+    tables::{
+        cmap::Cmap,
+        head::Head,
+        os2::{Os2, SelectionFlags},
+        post::Post,
+    },
+    types::Tag,
+};
 
 use crate::{
     Attributes, FontInfo, FontInfoOverride, FontStyle, FontWeight, FontWidth, Synthesis, describe,
@@ -241,7 +250,13 @@ impl<'a> Reader<'a> {
         } else {
             (0, at)
         };
-        match describe::read_from(file, number, source.clone()) {
+        let info = describe::open(file, number).and_then(|font| {
+            if needs_damaged(&font) {
+                return Err(31);
+            }
+            describe::info(&font, number, source.clone())
+        });
+        match info {
             Ok(info) => Ok(Face {
                 held,
                 file,
@@ -320,6 +335,22 @@ impl<'a> Reader<'a> {
             None => refuse(18, self.at + 2 * numbers.len()),
         }
     }
+}
+
+/// Whether a table that the attributes need has a record and yet is not found.
+/// The original takes it for absent.
+fn needs_damaged(font: &FontRef<'_>) -> bool {
+    let recorded = |tag: Tag| {
+        let mut records = font.table_directory().table_records().iter();
+        records.any(|record| record.tag() == tag)
+    };
+    let Ok(os2) = font.os2() else {
+        return recorded(Os2::TAG) || (font.head().is_err() && recorded(Head::TAG));
+    };
+    let selection = os2.fs_selection();
+    let oblique = selection.contains(SelectionFlags::OBLIQUE);
+    let needs_post = oblique && !selection.contains(SelectionFlags::ITALIC);
+    needs_post && font.post().is_err() && recorded(Post::TAG)
 }
 
 /// The record of the offer with the number, none past the list.

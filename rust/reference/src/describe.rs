@@ -14,21 +14,31 @@ use crate::{
 };
 
 /// Reads the font of the number with the original, or gives the number for
-/// why it is refused (docs/GUIDE.md, section 6).
+/// why it is refused (docs/GUIDE.md, section 6). It takes a damaged table for
+/// absent, so it knows no 31.
 pub fn read(bytes: &[u8], number: u16) -> Result<FontInfo, u32> {
     let blob = Blob::new(Arc::new(bytes.to_vec()));
     let source = SourceInfo::new(SourceId::new(), SourceKind::Memory(blob));
     read_from(bytes, number, source)
 }
 
-/// The same, the font said to be of a source. The original has no limit of axes.
+/// The same, the font said to be of a source.
 pub fn read_from(bytes: &[u8], number: u16, source: SourceInfo) -> Result<FontInfo, u32> {
-    let index = u32::from(number);
-    let font = FontRef::from_index(bytes, index).map_err(|error| match error {
-        ReadError::InvalidCollectionIndex(_) => 30u32,
+    info(&open(bytes, number)?, number, source)
+}
+
+/// The font of the number, its directory read, or why it is refused: 21 or 30.
+pub fn open(bytes: &[u8], number: u16) -> Result<FontRef<'_>, u32> {
+    FontRef::from_index(bytes, number.into()).map_err(|error| match error {
+        ReadError::InvalidCollectionIndex(_) => 30,
         _ => 21,
-    })?;
-    let info = FontInfo::from_font_ref(&font, source, index).ok_or(22u32)?;
+    })
+}
+
+/// What the original reads of a font that is open, or why it is refused: 22
+/// or 23. The original has no limit of axes.
+pub fn info(font: &FontRef<'_>, number: u16, source: SourceInfo) -> Result<FontInfo, u32> {
+    let info = FontInfo::from_font_ref(font, source, number.into()).ok_or(22u32)?;
     if info.axes().len() > AXES {
         return Err(23);
     }

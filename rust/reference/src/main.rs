@@ -20,9 +20,6 @@ const SEED: u64 = 1;
 /// Families where no count is given.
 const COUNT: usize = 2500;
 
-/// Random jobs where no count is given.
-const JOBS: usize = 300;
-
 #[derive(Default)]
 struct Options {
     out: Option<PathBuf>,
@@ -53,7 +50,7 @@ fn options(mut args: impl Iterator<Item = String>) -> Option<Options> {
 
 /// The jobs made for a purpose, then random ones; none where there is no folder.
 fn jobs(options: &Options, seed: u64) -> Option<io::Result<()>> {
-    let count = options.count.unwrap_or(JOBS);
+    let count = options.count.unwrap_or(list::RANDOM_JOBS);
     let cases = list::made()
         .into_iter()
         .chain(list::random(seed).take(count));
@@ -91,7 +88,8 @@ fn run() -> Option<io::Result<()>> {
                     println!("{number} {label}");
                 }
             }
-            lists::fonts(&options.out?, &list)
+            let asked = lists::fonts(&options.out?, &list);
+            asked.map(|asked| print!("seed {seed}\n{}", asked.text()))
         }
         "families" => {
             let cases = families::cases(seed, options.count.unwrap_or(COUNT));

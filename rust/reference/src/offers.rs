@@ -12,8 +12,8 @@ use std::{
 
 use jobs::{
     bytes::{fonts_stated, hex},
-    counts,
-    damage::Expected,
+    counts::{self, Asked},
+    damage::{Expected, is_font},
     layout::{self, Job, Request},
     list::Case,
 };
@@ -63,9 +63,10 @@ impl Harness {
     pub fn compare(&mut self, case: &Case) -> Result<Lines, String> {
         let bytes = &case.bytes[..];
         let (number, position) = plain::check(bytes);
-        fonts_agree(bytes, number, position as usize)?;
+        let asked = fonts_agree(bytes, number, position as usize)?;
         known(number, position as usize, case.expected)?;
         let counts = &mut self.counts.all;
+        counts.asked.add(asked);
         counts.job(case.expected, number, position as usize);
         if number != 0 {
             refused_calls(bytes, number)?;
@@ -316,11 +317,13 @@ fn known(number: u32, position: usize, expected: Expected) -> Result<(), String>
 }
 
 /// Whether the original accepts every font that the plain reading accepted
-/// on its way, and refuses the one that it refused.
-pub fn fonts_agree(bytes: &[u8], number: u32, position: usize) -> Result<(), String> {
+/// on its way, and refuses the one that it refused; of one that is refused
+/// with 31 it is not asked. Gives how many it was asked for.
+pub fn fonts_agree(bytes: &[u8], number: u32, position: usize) -> Result<Asked, String> {
     let end = if number == 0 { usize::MAX } else { position };
     let mut at = 2;
     let mut met = false;
+    let mut asked = Asked::default();
     for _ in 0..read16(bytes, 0).unwrap_or(0) {
         let length_at = at + 1;
         if length_at > end {
@@ -328,9 +331,14 @@ pub fn fonts_agree(bytes: &[u8], number: u32, position: usize) -> Result<(), Str
         }
         let entry = match Entry::read(bytes, length_at) {
             Ok(entry) => entry,
-            Err(at) if (number, position) == (18, at) => return Ok(()),
+            Err(at) if (number, position) == (18, at) => return Ok(asked),
             Err(at) => return Err(format!("past the end at {at}, but {number} at {position}")),
         };
+        if (number, position) == (31, length_at) {
+            asked.left_out += 1;
+            return Ok(asked);
+        }
+        asked.fonts += 1;
         let refused = describe::read(entry.file, entry.number).err().unwrap_or(0);
         // 30 is told at the font number, 21 to 23 at the length.
         let told = if refused == 30 {
@@ -347,10 +355,10 @@ pub fn fonts_agree(bytes: &[u8], number: u32, position: usize) -> Result<(), Str
         met |= told == end;
         at = entry.end;
     }
-    if matches!(number, 21..=23 | 30) && !met {
+    if is_font(number) && !met {
         return Err(format!("{number} at {position}, where no font stands"));
     }
-    Ok(())
+    Ok(asked)
 }
 
 fn read16(bytes: &[u8], at: usize) -> Option<u16> {
@@ -428,8 +436,9 @@ impl Counts {
     pub fn text(&self) -> String {
         let all = &self.all;
         format!(
-            "{}{} families {} requests {}\n{} lists as long as their most {}\nno difference\n",
+            "{}{}{} families {} requests {}\n{} lists as long as their most {}\nno difference\n",
             all.jobs_text(),
+            all.asked.text(),
             all.faces_text(),
             self.families,
             all.requests,
@@ -454,9 +463,12 @@ mod tests {
     fn no_difference() {
         let counts = compare_all(cases(11, 3000)).unwrap().all;
         assert!(counts.accepted > 1000 && counts.collected > 1000);
-        for number in (18..=27).chain([30]).filter(|number| *number != 23) {
+        for number in (18..=27).chain([30, 31]).filter(|number| *number != 23) {
             assert!(counts.refused[number] > 10, "{number}");
         }
+        // One font of each job that is refused with 31, and no other.
+        assert_eq!(counts.asked.left_out, counts.refused[31]);
+        assert!(counts.asked.fonts > counts.faces);
     }
 
     #[test]

@@ -24,10 +24,17 @@ fn no_difference() {
     assert!(counts.accepted > 300 && counts.offers > 10_000);
     assert!(
         (18..=27)
-            .chain([30])
+            .chain([30, 31])
             .all(|number| counts.refused[number] > 0)
     );
     assert!(counts.collected > 100);
+    // Of each job that is refused with 31 one font is left out.
+    let left_out = if original::HERE {
+        counts.refused[31]
+    } else {
+        0
+    };
+    assert_eq!(counts.asked.left_out, left_out);
 }
 
 /// The wrong calls are told; gives what is said.
@@ -199,6 +206,52 @@ fn wrong_answers_to_font_numbers_are_told() {
     ] {
         let told = told(name, Calls { check, ..PROVED });
         assert!(told.contains("the guide (plain): refused 30 "), "{told}");
+    }
+}
+
+/// Another refusal or another position in the place of 31, or none.
+#[test]
+fn wrong_answers_to_damaged_tables_are_told() {
+    type Check = fn(&[u8]) -> Answer;
+    let wrong: [(&str, Check); 4] = [
+        ("22 in its place", |job| match calls::check(job) {
+            Answer {
+                number: 31,
+                position,
+            } => Answer {
+                number: 22,
+                position,
+            },
+            answer => answer,
+        }),
+        ("behind the length", |job| match calls::check(job) {
+            Answer {
+                number: 31,
+                position,
+            } => Answer {
+                number: 31,
+                position: position.map(|position| position + 4),
+            },
+            answer => answer,
+        }),
+        ("accepted", |job| match calls::check(job) {
+            Answer { number: 31, .. } => Answer::of(0),
+            answer => answer,
+        }),
+        ("rescued where it is not held", |job| {
+            match calls::check(job) {
+                Answer {
+                    number: 31,
+                    position: Some(position),
+                } if job[position as usize - 1] == 0 => Answer::of(0),
+                answer => answer,
+            }
+        }),
+    ];
+    for (name, check) in wrong {
+        let told = told(name, Calls { check, ..PROVED });
+        assert!(told.contains("the guide (plain): refused 31 "), "{told}");
+        assert!(size_told(&told) < 100, "{told}");
     }
 }
 
