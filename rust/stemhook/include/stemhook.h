@@ -40,9 +40,9 @@ extern "C" {
 #define STEMHOOK_OFFERED 0   /* the 40 bytes are written */
 #define STEMHOOK_PAST_LIST 1 /* the request has no offer of that number */
 
-/* Refusals. The first that is met counts, reading from left to right; for one field, in this order. Of a collection, the
- * lack of its 12 header bytes (21) comes first, then its font number (18, 30), then its offsets or the font's offset
- * past the file (21), then the font (21, 22, 23).
+/* Refusals. The first that is met counts, reading from left to right; for one field, in this order, save that 31 comes
+ * between 21 and 22. Of a collection, the lack of its 12 header bytes (21) comes first, then its font number (18, 30),
+ * then its offsets or the font's offset past the file (21), then the font (21, 31, 22, 23).
  */
 #define STEMHOOK_REFUSED_OUTPUT_LENGTH 16
 #define STEMHOOK_REFUSED_JOB_LENGTH 17
@@ -59,6 +59,7 @@ extern "C" {
 #define STEMHOOK_REFUSED_NO_SUCH_REQUEST 28
 #define STEMHOOK_REFUSED_FOURTH_SETTING 29
 #define STEMHOOK_REFUSED_NO_SUCH_FONT 30
+#define STEMHOOK_REFUSED_DAMAGED_TABLE 31
 
 /* What a refusal is given for. */
 static inline const char *stemhook_meaning(uint32_t refusal)
@@ -94,14 +95,16 @@ static inline const char *stemhook_meaning(uint32_t refusal)
         return "synthesis would give a fourth setting";
     case STEMHOOK_REFUSED_NO_SUCH_FONT:
         return "the font number is not below the collection's count";
+    case STEMHOOK_REFUSED_DAMAGED_TABLE:
+        return "a table that the font's attributes need is damaged";
     default:
         return "not in the table of this version";
     }
 }
 
-/* The check call: 0 for an accepted job, else the position of the refused field times 256, plus the refusal (17 to 27 or
- * 30). A font's position is that of its length field; that of 30 is the font number; that of 27 is the first byte left; 17
- * has position 0.
+/* The check call: 0 for an accepted job, else the position of the refused field times 256, plus the refusal (17 to 27,
+ * 30 or 31). A font's position is that of its length field; that of 30 is the font number; that of 27 is the first byte
+ * left; 17 has position 0.
  *
  * `job` points at `length` bytes and is not NULL, even for length 0.
  */
@@ -137,7 +140,8 @@ uint64_t stemhook_check(const uint8_t *job, size_t length);
 #define STEMHOOK_AT_MAC_ROMAN 37
 
 /* The offer call: writes offer number `offer` of a request and answers STEMHOOK_OFFERED; or writes nothing and answers
- * STEMHOOK_PAST_LIST or a refusal (16 to 28 or 30; 29 is proved never to be given). It reads the whole job each time.
+ * STEMHOOK_PAST_LIST or a refusal (16 to 28, 30 or 31; 29 is proved never to be given). It reads the whole job each
+ * time.
  *
  * `job` points at `length` bytes and `out` at `out_length` bytes; neither is NULL, and they do not overlap. An
  * `out_length` other than 40 is refused.

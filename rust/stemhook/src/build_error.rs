@@ -35,7 +35,7 @@ pub enum Problem {
     FontTooLong,
     /// The picker refuses the font.
     Font {
-        /// The refusal: 21, 22, 23 or 30.
+        /// The refusal: 21, 22, 23, 30 or 31.
         refusal: Refusal,
         /// Why, as read from the file.
         fault: FontFault,

@@ -4,7 +4,11 @@ use std::fmt;
 
 use crate::{
     refusal::Refusal,
-    tables::{COLLECTION, Directory, HEADER, RECORD, STARTS, directory_at, face_count, half},
+    tables::{
+        CMAP, COLLECTION, Damage, Directory, FVAR, HEADER, Lookup, OS2, RECORD, STARTS,
+        directory_at, face_count, half,
+    },
+    tag::Tag,
 };
 
 /// What is wrong with a font file that the picker refuses.
@@ -20,6 +24,26 @@ use crate::{
 /// let Problem::Font { refusal, fault } = error.problem() else { panic!() };
 /// assert_eq!(refusal.number(), 21);
 /// assert_eq!(fault, FontFault::Woff2);
+/// ```
+///
+/// Of a file that was copied in part, the table that is cut is told by its name:
+///
+/// ```
+/// # mod fonts { include!(concat!(env!("CARGO_MANIFEST_DIR"), "/tests/common/fonts.rs")); }
+/// # let bold = fonts::weight(700);
+/// use stemhook::{FontFault, JobBuilder, Problem, Refusal, Tag};
+///
+/// let mut builder = JobBuilder::new();
+/// let error = builder.face(&bold[..100]).unwrap_err(); // of the 136 bytes of a font file
+/// let Problem::Font { refusal, fault } = error.problem() else { panic!() };
+/// assert_eq!(refusal, Refusal::DamagedTable);
+/// let table = Tag(*b"OS/2");
+/// assert_eq!(fault, FontFault::TablePastEnd { table, needed: 122, length: 100 });
+/// assert_eq!(
+///     error.to_string(),
+///     "faces[0].font: refused 31: a table that the font's attributes need is damaged: \
+///      its OS/2 table ends at byte 122, the file at 100: the file is cut or damaged"
+/// );
 /// ```
 #[derive(Clone, Copy, Debug, PartialEq, Eq, Hash)]
 #[non_exhaustive]
@@ -75,6 +99,26 @@ pub enum FontFault {
         /// How many bytes the file has.
         length: usize,
     },
+    /// A table that the font's attributes need reaches past the end of the file:
+    /// the file was copied in part, or its directory is wrong.
+    TablePastEnd {
+        /// The table: `OS/2`, `head` or `post`.
+        table: Tag,
+        /// Where the table ends, from the start of the file.
+        needed: usize,
+        /// How many bytes the file has.
+        length: usize,
+    },
+    /// A table that the font's attributes need has too few bytes. OpenType lets
+    /// old fonts have an `OS/2` table of 68; the picker needs 78.
+    TableShort {
+        /// The table: `OS/2`, `head` or `post`.
+        table: Tag,
+        /// How many bytes the table has.
+        length: usize,
+        /// How many it needs to have.
+        needed: usize,
+    },
     /// There is no `cmap` table.
     NoCmap,
     /// The `cmap` table reaches past the end of the file.
@@ -102,6 +146,7 @@ impl FontFault {
         let directory = || Directory::of(file, number);
         let fault = match refusal {
             Refusal::FontDirectory => Some(Self::of_start(file, number)),
+            Refusal::DamagedTable => directory().and_then(|found| Self::of_need(&found, file)),
             Refusal::NoCharmap => directory().and_then(|found| Self::of_cmap(&found)),
             Refusal::TooManyAxes => directory().and_then(|found| Self::of_fvar(&found)),
             Refusal::NoSuchFont => Some(Self::NoSuchFont {
@@ -161,19 +206,35 @@ impl FontFault {
         }
     }
 
+    /// Of a damaged table that is needed.
+    fn of_need(directory: &Directory, file: &[u8]) -> Option<Self> {
+        let (kind, damage) = directory.damaged_need()?;
+        let table = Tag(kind.tag);
+        Some(match damage {
+            Damage::PastEnd(needed) => Self::TablePastEnd {
+                table,
+                needed,
+                length: file.len(),
+            },
+            Damage::Short(length) => Self::TableShort {
+                table,
+                length,
+                needed: kind.least,
+            },
+        })
+    }
+
     fn of_cmap(directory: &Directory) -> Option<Self> {
-        let Some(record) = directory.record(b"cmap") else {
-            return Some(Self::NoCmap);
-        };
-        match directory.table(b"cmap", 0) {
-            None => Some(Self::CmapPastEnd),
-            Some(_) if record.length < 4 => Some(Self::CmapShort),
-            Some(cmap) => half(cmap.bytes, 2).map(|records| Self::CmapRecords { records }),
+        match directory.look_up(CMAP) {
+            Lookup::Absent => Some(Self::NoCmap),
+            Lookup::Damaged(Damage::PastEnd(_)) => Some(Self::CmapPastEnd),
+            Lookup::Damaged(Damage::Short(_)) => Some(Self::CmapShort),
+            Lookup::Found(cmap) => half(cmap.bytes, 2).map(|records| Self::CmapRecords { records }),
         }
     }
 
     fn of_fvar(directory: &Directory) -> Option<Self> {
-        let axes = half(directory.table(b"fvar", 16)?.bytes, 8)?;
+        let axes = half(directory.look_up(FVAR).found()?.bytes, 8)?;
         Some(Self::Axes { axes })
     }
 }
@@ -205,6 +266,16 @@ impl fmt::Display for FontFault {
             Self::DirectoryPastEnd { needed, length } => {
                 past_end(f, "its table directory ends", *needed as u64, *length)
             }
+            Self::TablePastEnd {
+                table,
+                needed,
+                length,
+            } => table_past_end(f, *table, *needed, *length),
+            Self::TableShort {
+                table,
+                length,
+                needed,
+            } => table_short(f, *table, *length, *needed),
             Self::NoCmap => f.write_str("it has no cmap table"),
             Self::CmapPastEnd => f.write_str("its cmap table reaches past the end of the file"),
             Self::CmapShort => f.write_str("its cmap table has fewer than four bytes"),
@@ -238,6 +309,37 @@ fn font_past_end(f: &mut fmt::Formatter<'_>, offset: usize, length: usize) -> fm
         f,
         "it begins at byte {offset}, and the file ends at {length}"
     )
+}
+
+fn table_past_end(
+    f: &mut fmt::Formatter<'_>,
+    table: Tag,
+    needed: usize,
+    length: usize,
+) -> fmt::Result {
+    past_end(f, &format!("its {table} table ends"), needed as u64, length)?;
+    f.write_str(": the file is cut or damaged")
+}
+
+/// Bytes of an OS/2 of version 0 in its oldest form.
+const OLD_OS2: usize = 68;
+
+fn table_short(
+    f: &mut fmt::Formatter<'_>,
+    table: Tag,
+    length: usize,
+    needed: usize,
+) -> fmt::Result {
+    let bytes = match length {
+        0 => "no bytes".into(),
+        1 => "1 byte".into(),
+        _ => format!("{length} bytes"),
+    };
+    write!(f, "its {table} table has {bytes}, and {needed} are needed")?;
+    if table.0 == OS2.tag && length == OLD_OS2 {
+        f.write_str(": an old form that OpenType allows; export the font again")?;
+    }
+    Ok(())
 }
 
 fn no_such_font(f: &mut fmt::Formatter<'_>, number: u16, fonts: u32) -> fmt::Result {

@@ -3,12 +3,16 @@
 //! The picker reads five tables, and of `cmap` its records alone. The small
 //! file has the same start; of each of the five that is found its first record
 //! and the part that is read; and the `cmap` records with other subtable
-//! offsets. A table that is absent for the picker is left out. So width, style,
+//! offsets. A table that is absent is left out. A damaged `OS/2`, `head` or
+//! `post` stays damaged: it has a record, and no bytes. A damaged `fvar` or
+//! `cmap` is left out, since it counts as an absent one does. So width, style,
 //! weight, axes, the kind of charmap and every refusal are those of the whole
 //! file, whatever it holds; the charmap's offset is mapped back. Of a font of a
 //! collection it is a lone font's file.
 
-use crate::tables::{Directory, HEADER, RECORD, Table, half, word};
+use crate::tables::{
+    CMAP, Directory, FVAR, HEAD, HEADER, Lookup, OS2, POST, RECORD, Table, half, word,
+};
 
 /// The small file, and the way back to the whole one.
 pub struct LookedAt {
@@ -49,20 +53,22 @@ pub fn looked_at(file: &[u8], number: u16) -> Option<LookedAt> {
             subtables: Subtables::default(),
         });
     };
-    let cmap = directory.table(b"cmap", 4);
     let mut tables = Vec::new();
-    for (tag, least) in [(*b"OS/2", 78), (*b"head", 54), (*b"post", 32)] {
-        if let Some(table) = directory.table(&tag, least) {
-            tables.push((tag, table.bytes[..least].to_vec()));
+    for kind in [OS2, HEAD, POST] {
+        match directory.look_up(kind) {
+            Lookup::Absent => {}
+            // Shorter than needed, here too.
+            Lookup::Damaged(_) => tables.push((kind.tag, Vec::new())),
+            Lookup::Found(table) => tables.push((kind.tag, table.bytes[..kind.least].to_vec())),
         }
     }
-    if let Some(fvar) = directory.table(b"fvar", 16).and_then(axes) {
-        tables.push((*b"fvar", fvar.to_vec()));
+    if let Some(fvar) = directory.look_up(FVAR).found().and_then(axes) {
+        tables.push((FVAR.tag, fvar.to_vec()));
     }
     let mut whole = Vec::new();
-    if let Some(cmap) = cmap {
+    if let Some(cmap) = directory.look_up(CMAP).found() {
         let (small, offsets) = records(cmap);
-        tables.push((*b"cmap", small));
+        tables.push((CMAP.tag, small));
         whole = offsets;
     }
     let bytes = font_file(directory.start, &tables);

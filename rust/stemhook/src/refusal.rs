@@ -47,14 +47,22 @@ pub enum Refusal {
     FourthSetting,
     /// 30: the font number is not below the collection's count.
     NoSuchFont,
+    /// 31: a table that the font's attributes need is damaged. It comes after
+    /// 21 and before 22.
+    ///
+    /// A table is damaged where its first record reaches past the file or is
+    /// shorter than what is read: 78 bytes of `OS/2`, 54 of `head`, 32 of `post`.
+    /// `OS/2` is needed wherever it has a record, `head` where `OS/2` has none,
+    /// and `post` where `OS/2` says that the font is oblique and not italic.
+    DamagedTable,
     /// A number that is not in this version's table: the static library is of
     /// another version.
     Unknown(u32),
 }
 
 impl Refusal {
-    /// The refusals of the table, in its order.
-    pub const TABLE: [Self; 15] = [
+    /// The refusals of the table, in the order of their numbers.
+    pub const TABLE: [Self; 16] = [
         Self::OutputLength,
         Self::JobLength,
         Self::PastEnd,
@@ -70,6 +78,7 @@ impl Refusal {
         Self::NoSuchRequest,
         Self::FourthSetting,
         Self::NoSuchFont,
+        Self::DamagedTable,
     ];
 
     /// The refusal's number in the table.
@@ -90,6 +99,7 @@ impl Refusal {
             Self::NoSuchRequest => 28,
             Self::FourthSetting => 29,
             Self::NoSuchFont => 30,
+            Self::DamagedTable => 31,
             Self::Unknown(number) => number,
         }
     }
@@ -120,6 +130,7 @@ impl Refusal {
             Self::NoSuchRequest => "the request is not in the job",
             Self::FourthSetting => "synthesis would give a fourth setting",
             Self::NoSuchFont => "the font number is not below the collection's count",
+            Self::DamagedTable => "a table that the font's attributes need is damaged",
             Self::Unknown(_) => "not in the table of this version",
         }
     }

@@ -9,6 +9,46 @@ pub struct Directory<'a> {
     records: &'a [u8],
 }
 
+/// A table that is read.
+#[derive(Clone, Copy)]
+pub struct Kind {
+    pub tag: [u8; 4],
+    /// The fewest bytes that it has.
+    pub least: usize,
+}
+
+/// A table's kind by its tag and its least length.
+const fn kind(tag: &[u8; 4], least: usize) -> Kind {
+    Kind { tag: *tag, least }
+}
+
+pub const OS2: Kind = kind(b"OS/2", 78);
+pub const HEAD: Kind = kind(b"head", 54);
+pub const POST: Kind = kind(b"post", 32);
+pub const FVAR: Kind = kind(b"fvar", 16);
+pub const CMAP: Kind = kind(b"cmap", 4);
+
+/// What is found of a table. The first record with its tag counts, also where a
+/// later one is sound.
+#[derive(Clone, Copy)]
+pub enum Lookup<'a> {
+    /// No record has the tag.
+    Absent,
+    /// The record cannot be used.
+    Damaged(Damage),
+    /// The table lies in the file and has its least length.
+    Found(Table<'a>),
+}
+
+/// Why the record of a table cannot be used.
+#[derive(Clone, Copy)]
+pub enum Damage {
+    /// The table ends here, and the file before.
+    PastEnd(usize),
+    /// The table lies in the file, and has so many bytes: too few.
+    Short(usize),
+}
+
 /// A table that lies in the file.
 #[derive(Clone, Copy)]
 pub struct Table<'a> {
@@ -18,11 +58,14 @@ pub struct Table<'a> {
     pub bytes: &'a [u8],
 }
 
-/// What the first record with a tag says.
-#[derive(Clone, Copy)]
-pub struct Record {
-    pub offset: usize,
-    pub length: usize,
+impl<'a> Lookup<'a> {
+    /// The table, where it is found.
+    pub fn found(self) -> Option<Table<'a>> {
+        match self {
+            Self::Found(table) => Some(table),
+            Self::Absent | Self::Damaged(_) => None,
+        }
+    }
 }
 
 /// Bytes before the records, and before the offsets of a collection.
@@ -97,22 +140,41 @@ impl<'a> Directory<'a> {
         })
     }
 
-    /// The first record with a tag.
-    pub fn record(&self, tag: &[u8; 4]) -> Option<Record> {
+    /// Looks for a table.
+    pub fn look_up(&self, kind: Kind) -> Lookup<'a> {
         let mut records = self.records.chunks_exact(RECORD);
-        let record = records.find(|record| record.starts_with(tag))?;
-        Some(Record {
-            offset: word(record, 8)? as usize,
-            length: word(record, 12)? as usize,
-        })
+        let record = records.find(|record| record.starts_with(&kind.tag));
+        let field = |at| Some(word(record?, at)? as usize);
+        let (Some(offset), Some(length)) = (field(8), field(12)) else {
+            return Lookup::Absent;
+        };
+        // Of 32 bits each: the sum has no more than 33.
+        let end = offset + length;
+        match self.file.get(offset..end) {
+            None => Lookup::Damaged(Damage::PastEnd(end)),
+            Some(_) if length < kind.least => Lookup::Damaged(Damage::Short(length)),
+            Some(bytes) => Lookup::Found(Table { offset, bytes }),
+        }
     }
 
-    /// The table of a tag: none where its first record reaches past the file or
-    /// is shorter than `least`.
-    pub fn table(&self, tag: &[u8; 4], least: usize) -> Option<Table<'a>> {
-        let Record { offset, length } = self.record(tag)?;
-        let bytes = self.file.get(offset..)?.get(..length)?;
-        (length >= least).then_some(Table { offset, bytes })
+    /// The table that the font's attributes need and that is damaged, if one is.
+    ///
+    /// They need `OS/2` wherever it has a record, `head` where it has none, and
+    /// `post` where `OS/2` says that the font is oblique and not italic.
+    pub fn damaged_need(&self) -> Option<(Kind, Damage)> {
+        let needed = match self.look_up(OS2) {
+            Lookup::Absent => HEAD,
+            Lookup::Damaged(_) => OS2,
+            Lookup::Found(os2) => {
+                let selection = half(os2.bytes, 62)?;
+                let (italic, oblique) = (selection & 1 != 0, selection & 1 << 9 != 0);
+                (oblique && !italic).then_some(POST)?
+            }
+        };
+        match self.look_up(needed) {
+            Lookup::Damaged(damage) => Some((needed, damage)),
+            Lookup::Absent | Lookup::Found(_) => None,
+        }
     }
 }
 
@@ -124,4 +186,45 @@ pub fn half(bytes: &[u8], at: usize) -> Option<u16> {
 /// The 32-bit number at a position.
 pub fn word(bytes: &[u8], at: usize) -> Option<u32> {
     Some(u32::from_be_bytes(*bytes.get(at..)?.first_chunk()?))
+}
+
+#[cfg(test)]
+mod tests {
+    use super::*;
+    use jobs::bytes::{START, font, head, os2, post};
+
+    /// The damaged table that is needed, by its tag, of a font with some tables.
+    fn damaged(tables: &[([u8; 4], Vec<u8>)]) -> Option<[u8; 4]> {
+        let file = font(START, tables);
+        let directory = Directory::of(&file, 0).expect("it is a font");
+        directory.damaged_need().map(|(kind, _)| kind.tag)
+    }
+
+    #[test]
+    fn what_the_attributes_need() {
+        let os2 = |selection| (OS2.tag, os2(400, 5, selection));
+        let (sound_head, sound_post) = ((HEAD.tag, head(0)), (POST.tag, post(0)));
+        let [no_os2, no_head, no_post] = [OS2, HEAD, POST].map(|kind| (kind.tag, vec![]));
+        for (tables, expected) in [
+            (vec![], None),
+            (vec![os2(0)], None),
+            (vec![no_os2.clone(), sound_head.clone()], Some(OS2)),
+            (vec![no_head.clone(), no_os2], Some(OS2)),
+            (vec![no_head.clone(), os2(0)], None),
+            (vec![no_head, no_post.clone()], Some(HEAD)),
+            (vec![sound_head, no_post.clone()], None),
+            (vec![no_post.clone()], None),
+            (vec![no_post.clone(), os2(0)], None),
+            (vec![no_post.clone(), os2(!(1 << 9))], None),
+            (vec![no_post.clone(), os2(u16::MAX)], None),
+            (vec![no_post.clone(), os2(1 << 9)], Some(POST)),
+            (vec![no_post.clone(), os2(!1)], Some(POST)),
+            (vec![sound_post.clone(), os2(1 << 9)], None),
+            (vec![no_post, sound_post, os2(1 << 9)], Some(POST)),
+            (vec![os2(1 << 9)], None),
+        ] {
+            let expected = expected.map(|kind: Kind| kind.tag);
+            assert_eq!(damaged(&tables), expected, "{tables:?}");
+        }
+    }
 }

@@ -1,8 +1,8 @@
-//! Tags of variation axes.
+//! Tags of variation axes and of tables.
 
 use std::{error::Error, fmt, str::FromStr};
 
-/// The tag of a variation axis: four bytes.
+/// The tag of a variation axis, or of a font's table: four bytes.
 ///
 /// ```
 /// use stemhook::Tag;

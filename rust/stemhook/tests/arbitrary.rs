@@ -9,7 +9,7 @@ use stemhook::{Job, Offer, Refusal, check, offer, offer_bytes};
 fn try_all(job: &[u8], random: &mut Random) -> bool {
     let checked = check(job);
     if let Err(refused) = checked {
-        assert!(matches!(refused.number(), 17..=27 | 30), "{refused}");
+        assert!(matches!(refused.number(), 17..=27 | 30 | 31), "{refused}");
         let at_end = refused.position().unwrap_or(0) as usize <= job.len();
         assert!(at_end, "{refused} in {} bytes", job.len());
         assert!(refused.to_string().starts_with("refused "));

@@ -73,7 +73,7 @@ fn the_header_has_the_meanings_of_this_crate() {
         .into_iter()
         .map(|refusal| (upper(&format!("{refusal:?}")), refusal.meaning()))
         .collect();
-    expected.push((String::new(), Refusal::from_number(31).meaning()));
+    expected.push((String::new(), Refusal::from_number(32).meaning()));
     let listed: Vec<(String, &str)> = meanings()
         .into_iter()
         .map(|(name, meaning)| (name.to_owned(), meaning))

@@ -6,7 +6,7 @@ mod common;
 use std::error::Error as _;
 
 use common::fonts;
-use stemhook::{FaceId, FontFault, FontFile, JobBuilder, Problem, Refusal};
+use stemhook::{FaceId, FontFault, FontFile, JobBuilder, Problem, Refusal, Tag};
 
 /// A font with tables of the tests' own, or without them.
 fn with(tables: &[([u8; 4], Vec<u8>)]) -> Vec<u8> {
@@ -15,9 +15,7 @@ fn with(tables: &[([u8; 4], Vec<u8>)]) -> Vec<u8> {
 
 /// A font whose one record, of `cmap`, has another length.
 fn with_cmap_length(length: u32) -> Vec<u8> {
-    let mut font = with(&[(*b"cmap", fonts::cmap(3, 1))]);
-    font[24..28].copy_from_slice(&length.to_be_bytes());
-    font
+    fonts::with_length(&with(&[(*b"cmap", fonts::cmap(3, 1))]), 0, length)
 }
 
 /// A font file, what is wrong with it, and some of the words.
@@ -62,6 +60,119 @@ fn tables() -> Vec<Case> {
         (other, records, "none of the 1 records"),
         (axes, FontFault::Axes { axes: 17 }, "17 variation axes"),
     ]
+}
+
+/// The tables of an upright font, of an oblique one and of one without `OS/2`.
+/// Of each, the first is needed for the attributes.
+fn needing() -> [Vec<([u8; 4], Vec<u8>)>; 3] {
+    let cmap = (*b"cmap", fonts::cmap(3, 1));
+    let head = (*b"head", fonts::head(3));
+    let post = (*b"post", fonts::post(0xfff4_0000));
+    let os2 = |selection| (*b"OS/2", fonts::os2(700, 5, selection));
+    [
+        vec![os2(0), head.clone(), post.clone(), cmap.clone()],
+        vec![post.clone(), os2(1 << 9), head.clone(), cmap.clone()],
+        vec![head, post, cmap],
+    ]
+}
+
+/// Fonts with a damaged table that their attributes need, told by its name.
+fn damaged() -> Vec<Case> {
+    let [upright, oblique, old] = needing().map(|tables| with(&tables));
+    let table = |name: &[u8; 4]| Tag(*name);
+    let past = |name, needed, length| FontFault::TablePastEnd {
+        table: table(name),
+        needed,
+        length,
+    };
+    let short = |name, length, needed| FontFault::TableShort {
+        table: table(name),
+        length,
+        needed,
+    };
+    // The first table begins behind the directory, at 12 + 16 * 4 or 12 + 16 * 3.
+    let far = fonts::with_record(&upright, 0, u32::MAX, 78);
+    let length = far.len();
+    let case = |font: &[u8], least, name, words| {
+        let font = fonts::with_length(font, 0, least as u32 - 1);
+        (font, short(name, least - 1, least), words)
+    };
+    let of_length = |length| fonts::with_length(&upright, 0, length);
+    vec![
+        (
+            upright[..153].to_vec(),
+            past(b"OS/2", 154, 153),
+            ": its OS/2 table ends at byte 154, the file at 153: the file is cut or damaged",
+        ),
+        (
+            oblique[..107].to_vec(),
+            past(b"OS/2", 186, 107),
+            ": its OS/2 table ends at byte 186, the file at 107",
+        ),
+        (
+            old[..61].to_vec(),
+            past(b"head", 114, 61),
+            ": its head table ends at byte 114, the file at 61",
+        ),
+        (
+            far,
+            past(b"OS/2", u32::MAX as usize + 78, length),
+            "ends at byte 4294967373, the file at ",
+        ),
+        (
+            fonts::with_record(&oblique, 0, length as u32 - 31, 32),
+            past(b"post", length + 1, length),
+            ": its post table ends at byte ",
+        ),
+        case(
+            &upright,
+            78,
+            b"OS/2",
+            ": its OS/2 table has 77 bytes, and 78 are needed",
+        ),
+        case(
+            &oblique,
+            32,
+            b"post",
+            ": its post table has 31 bytes, and 32 are needed",
+        ),
+        case(
+            &old,
+            54,
+            b"head",
+            ": its head table has 53 bytes, and 54 are needed",
+        ),
+        (
+            of_length(68),
+            short(b"OS/2", 68, 78),
+            "export the font again",
+        ),
+        (of_length(1), short(b"OS/2", 1, 78), "has 1 byte, and 78"),
+        (of_length(0), short(b"OS/2", 0, 78), "has no bytes, and 78"),
+    ]
+}
+
+/// A damaged table comes before what is wrong with `cmap` and `fvar`, and before
+/// another damaged one that is not looked at for it.
+fn damaged_first() -> Vec<Case> {
+    let os2 = (*b"OS/2", fonts::os2(700, 5, 0)[..76].to_vec());
+    let head = (*b"head", vec![]);
+    let axes = fonts::fvar(&[(*b"wght", 1, 2, 3); 17]);
+    let short = FontFault::TableShort {
+        table: Tag(os2.0),
+        length: 76,
+        needed: 78,
+    };
+    let cases = [
+        vec![os2.clone()],
+        vec![head, os2.clone()],
+        vec![(*b"cmap", fonts::cmap(3, 2)), os2.clone()],
+        vec![(*b"cmap", fonts::cmap(3, 1)), (*b"fvar", axes), os2.clone()],
+        // A sound one behind it does not count.
+        vec![os2, (*b"OS/2", fonts::os2(700, 5, 0))],
+    ];
+    let case = |tables: Vec<_>| (with(&tables), short, "its OS/2 table has 76 bytes");
+    cases.map(case).to_vec()
 }
 
 /// A collection of two fonts with another 32-bit number at a position.
@@ -131,7 +242,15 @@ fn offsets() -> Vec<Case> {
 }
 
 fn cases() -> Vec<Case> {
-    [starts(), tables(), headers(), offsets()].concat()
+    [
+        starts(),
+        tables(),
+        damaged(),
+        damaged_first(),
+        headers(),
+        offsets(),
+    ]
+    .concat()
 }
 
 #[test]
@@ -183,6 +302,8 @@ fn the_numbers_are_the_picker_s() {
             FontFault::NoCmap | FontFault::CmapPastEnd => Refusal::NoCharmap,
             FontFault::CmapShort | FontFault::CmapRecords { .. } => Refusal::NoCharmap,
             FontFault::NoSuchFont { .. } => Refusal::NoSuchFont,
+            FontFault::TablePastEnd { .. } => Refusal::DamagedTable,
+            FontFault::TableShort { .. } => Refusal::DamagedTable,
             _ => Refusal::FontDirectory,
         };
         let problem = Problem::Font {
@@ -190,6 +311,68 @@ fn the_numbers_are_the_picker_s() {
             fault,
         };
         assert_eq!(error.problem(), problem);
+    }
+}
+
+/// What the attributes do not need may be damaged: the font is taken, or what
+/// else is wrong with it is told.
+#[test]
+fn a_damaged_table_that_is_not_needed_is_not_told() {
+    let [upright, oblique, old] = needing();
+    let mut italic = oblique.clone();
+    italic[1].1 = fonts::os2(700, 5, 1 | 1 << 9);
+    for (tables, number) in [
+        (&upright, 1),
+        (&upright, 2),
+        (&oblique, 2),
+        (&italic, 0),
+        (&italic, 2),
+        (&old, 1),
+    ] {
+        let mut tables = tables.clone();
+        tables[number].1.clear();
+        assert_eq!(
+            JobBuilder::new().face(&with(&tables)),
+            Ok(FaceId::new(0)),
+            "{tables:?}"
+        );
+        tables.pop();
+        let error = JobBuilder::new().face(&with(&tables)).unwrap_err();
+        let (refusal, fault) = (Refusal::NoCharmap, FontFault::NoCmap);
+        assert_eq!(error.problem(), Problem::Font { refusal, fault });
+    }
+}
+
+/// In a collection the end of a table counts from the start of the file, as the
+/// table's offset does.
+#[test]
+fn a_damaged_table_of_a_collection() {
+    let file = fonts::collected(&[fonts::weight(400), fonts::weight(700)]);
+    // Its last 14 bytes are a `cmap`, and the 78 before them an `OS/2`.
+    let needed = file.len() - 14;
+    let cut = &file[..needed - 1];
+    let mut builder = JobBuilder::new();
+    assert_eq!(builder.face(cut), Ok(FaceId::new(0)));
+    let error = builder.face(FontFile::new(cut).number(1)).unwrap_err();
+    let fault = FontFault::TablePastEnd {
+        table: Tag(*b"OS/2"),
+        needed,
+        length: cut.len(),
+    };
+    let refusal = Refusal::DamagedTable;
+    assert_eq!(error.problem(), Problem::Font { refusal, fault });
+    assert_eq!(error.field(), "faces[1].font");
+}
+
+/// A face that is not held takes part in the choice: its attributes have to be
+/// known too.
+#[test]
+fn a_damaged_table_of_a_face_that_is_not_held() {
+    let file = fonts::weight(700);
+    let font = FontFile::new(&file[..100]).not_held();
+    for font in [font, font.whole()] {
+        let error = JobBuilder::new().face(font).unwrap_err();
+        assert!(error.to_string().contains("refused 31"), "{error}");
     }
 }
 

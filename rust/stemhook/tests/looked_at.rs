@@ -7,6 +7,7 @@ use std::{env, fs, path::Path};
 
 use common::fonts;
 use jobs::{
+    bytes::{self, Table},
     fonts::{random_file, random_font},
     random::Random,
 };
@@ -83,8 +84,8 @@ fn refusal_of_whole(file: &[u8], number: u16) -> u32 {
 #[derive(Debug, Default)]
 struct Counts {
     read: u64,
-    /// By refusal: 21, 22, 23 and 30.
-    refused: [u64; 4],
+    /// By refusal: 21, 22, 23, 30 and 31.
+    refused: [u64; 5],
     /// Fonts of collections that were read.
     collected: u64,
     offers: u64,
@@ -105,7 +106,8 @@ fn compare_refusal(font: (&[u8], u16), error: &BuildError, name: &str, counts: &
     if in_job && file.len() + 15 <= limits::JOB_BYTES {
         assert_eq!(refusal_of_whole(file, number), refused, "{name}");
     }
-    let at = [21, 22, 23, 30].iter().position(|known| *known == refused);
+    let known = [21, 22, 23, 30, 31];
+    let at = known.iter().position(|known| *known == refused);
     counts.refused[at.expect(name)] += 1;
 }
 
@@ -154,6 +156,135 @@ fn generated_and_damaged_fonts() {
     );
     assert!(counts.collected > 2000, "{counts:?}");
     assert!(counts.refused.iter().all(|count| *count > 50), "{counts:?}");
+}
+
+/// Tables of fonts, with those that the attributes need.
+fn needing() -> Vec<(Vec<Table>, Vec<[u8; 4]>)> {
+    let (os2, head, post) = (*b"OS/2", *b"head", *b"post");
+    let sloping = |selection| (os2, fonts::os2(700, 5, selection));
+    let others = [
+        (head, fonts::head(3)),
+        (post, fonts::post(0xfff4_0000)),
+        (*b"fvar", fonts::fvar(&[(*b"wght", 100, 400, 900)])),
+        (*b"cmap", fonts::cmap(3, 1)),
+    ];
+    let beside = |selection| [&others[..], &[sloping(selection)]].concat();
+    let cmap = others[3].clone();
+    vec![
+        (beside(0), vec![os2]),
+        (beside(1), vec![os2]),
+        (beside(1 << 9), vec![os2, post]),
+        (beside(1 | 1 << 9), vec![os2]),
+        (vec![sloping(1 << 9), cmap.clone()], vec![os2]),
+        (others.to_vec(), vec![head]),
+        (others[1..].to_vec(), vec![]),
+        (vec![cmap], vec![]),
+    ]
+}
+
+/// The least length of each table that is read.
+const LEAST: [([u8; 4], u32); 5] = [
+    (*b"OS/2", 78),
+    (*b"head", 54),
+    (*b"post", 32),
+    (*b"fvar", 16),
+    (*b"cmap", 4),
+];
+
+/// A font with its record of a number damaged, in each way.
+fn damages(font: &[u8], number: usize, least: u32) -> Vec<Vec<u8>> {
+    let (offset, length) = (bytes::offset(font, number), bytes::length(font, number));
+    let end = font.len() as u32;
+    let records = [
+        // Past the end by a byte; by so much that 32 bits would not hold it.
+        (end - length + 1, length),
+        (u32::MAX, length),
+        (u32::MAX - length + 1, length),
+        (offset, u32::MAX),
+        // Too short, also at the end of the file; both at once.
+        (offset, 0),
+        (end, 0),
+        (offset, least - 1),
+        (end - (least - 1), least - 1),
+        (end, 1),
+    ];
+    let damaged = |(offset, length)| fonts::with_record(font, number, offset, length);
+    records.map(damaged).to_vec()
+}
+
+/// What the picker says of a font alone and in a collection, beside the small
+/// file; and, where the font is taken, what the small file has of a table.
+fn compare_damaged(font: Vec<u8>, tag: &[u8; 4], expected: u32, r: &mut Random) {
+    let mut counts = Counts::default();
+    let name = format!("{} in {font:?}", tag.escape_ascii());
+    assert_eq!(refusal_of_whole(&font, 0), expected, "{name}");
+    compare(&font, 0, &name, r, &mut counts);
+    if expected == 0 {
+        let small = job(FontFile::new(&font), &[]).expect(&name);
+        let small = second_font(small.as_bytes());
+        let mut records = small[12..].chunks(16).take(small[5].into());
+        let record = records.find(|record| record.starts_with(tag));
+        // A damaged one has a record and no bytes, but for those that count as
+        // absent.
+        let kept = tag != b"fvar";
+        assert_eq!(
+            record.map(|record| &record[12..]),
+            kept.then_some(&[0; 4][..])
+        );
+    }
+    let collection = fonts::collected(&[fonts::weight(400), font]);
+    assert_eq!(refusal_of_whole(&collection, 1), expected, "{name}");
+    compare(&collection, 1, &name, r, &mut counts);
+    let refused = if expected == 0 { 0 } else { 2 };
+    let sums = (counts.read, counts.refused.iter().sum::<u64>());
+    assert_eq!(sums, (2 - refused, refused), "{name}");
+}
+
+#[test]
+fn each_damage_of_each_table() {
+    let mut r = Random::new(17);
+    for (tables, needed) in needing() {
+        for (tag, least) in LEAST {
+            let Some(number) = tables.iter().position(|(other, _)| *other == tag) else {
+                continue;
+            };
+            let expected = match &tag {
+                b"cmap" => 22,
+                _ if needed.contains(&tag) => 31,
+                _ => 0,
+            };
+            let font = fonts::file(*b"OTTO", &tables);
+            // A sound table behind the damaged one does not count.
+            let again = [&tables[..], &tables[number..=number]].concat();
+            for font in [font, fonts::file(*b"OTTO", &again)] {
+                for damaged in damages(&font, number, least) {
+                    compare_damaged(damaged, &tag, expected, &mut r);
+                }
+            }
+        }
+    }
+}
+
+/// A table that ends where the file does is found, at its least length too; and
+/// a damaged one behind a sound one does not count.
+#[test]
+fn sound_tables_beside_damage() {
+    let mut r = Random::new(18);
+    let mut counts = Counts::default();
+    for (mut tables, _) in needing() {
+        for _ in 0..tables.len() {
+            tables.rotate_left(1);
+            let (tag, _) = tables[tables.len() - 1];
+            let repeated = [&tables[..], &[(tag, vec![])]].concat();
+            for tables in [&tables, &repeated] {
+                let font = fonts::file(*b"true", tables);
+                let name = format!("{tables:?}");
+                compare(&font, 0, &name, &mut r, &mut counts);
+            }
+        }
+    }
+    assert!(counts.read > 50, "{counts:?}");
+    assert_eq!(counts.refused, [0; 5]);
 }
 
 /// Beside the same font as a file of its own, a font of a collection has other

@@ -13,8 +13,8 @@ use std::{
 };
 
 use stemhook::{
-    Angle, Attributes, FaceId, FontFile, Job, JobBuilder, Offer, Request, RequestId, Style, Tag,
-    face_count,
+    Angle, Attributes, BuildError, FaceId, FontFault, FontFile, Job, JobBuilder, Offer, Problem,
+    Refusal, Request, RequestId, Style, Tag, face_count,
 };
 
 const DEJAVU: &str = "truetype/dejavu";
@@ -373,4 +373,89 @@ fn fonts_of_a_collection_are_offered_as_they_are_alone() {
         offer.charmap.offset = (i64::from(offer.charmap.offset) + farther) as u32;
     }
     assert_eq!(offers, moved);
+}
+
+/// Where a font of a file has a table.
+fn table(file: &[u8], directory: usize, tag: &[u8; 4]) -> Range<usize> {
+    let found = tables(file, directory).into_iter();
+    let mut found = found.filter(|(other, _)| other == tag);
+    found.next().expect("the font has it").1
+}
+
+/// Adds a font of what was copied of a file.
+fn added(file: &[u8], length: usize, number: u16) -> Result<FaceId, BuildError> {
+    JobBuilder::new().face(FontFile::new(&file[..length]).number(number))
+}
+
+/// Whether what was copied of a file is refused for its `OS/2`, in these words.
+fn refused_by_os2(file: &[u8], length: usize, number: u16, needed: usize) {
+    let error = added(file, length, number).unwrap_err();
+    let table = Tag(*b"OS/2");
+    let fault = FontFault::TablePastEnd {
+        table,
+        needed,
+        length,
+    };
+    let refusal = Refusal::DamagedTable;
+    assert_eq!(error.problem(), Problem::Font { refusal, fault });
+    let words = format!(
+        "faces[0].font: refused 31: a table that the font's attributes need is damaged: \
+         its OS/2 table ends at byte {needed}, the file at {length}: the file is cut or damaged"
+    );
+    assert_eq!(error.to_string(), words);
+}
+
+/// A file that was copied in part: where its `OS/2` is cut it is refused for
+/// that, and not taken for another face.
+#[test]
+fn a_file_that_was_copied_in_part() {
+    let Some(folder) = folder("a_file_that_was_copied_in_part") else {
+        return;
+    };
+    let files = [&SANS[..], &LIGHT_TO_BOLD, &SLANTING, &ROMAN_AND_ITALIC];
+    for name in files.concat() {
+        let file = font(&folder, name);
+        assert!(added(&file, file.len(), 0).is_ok(), "{name}");
+        let os2 = table(&file, 0, b"OS/2");
+        for length in [os2.start, os2.start + os2.len() / 2, os2.end - 1] {
+            refused_by_os2(&file, length, 0, os2.end);
+        }
+        // With the whole of it, it depends on `cmap`; no other table is needed.
+        let cmap = table(&file, 0, b"cmap");
+        let refusal = |length| match added(&file, length, 0).map_err(|error| error.problem()) {
+            Ok(_) => None,
+            Err(Problem::Font { refusal, .. }) => Some(refusal),
+            Err(problem) => panic!("{name}: {problem}"),
+        };
+        assert!(os2.end < cmap.end, "{name}");
+        assert_eq!(refusal(os2.end), Some(Refusal::NoCharmap), "{name}");
+        assert_eq!(refusal(cmap.end), None, "{name}");
+    }
+}
+
+/// In this collection `OS/2` lies behind the `cmap` and the `head` of the first
+/// font: with half of the file, or all up to the middle of `OS/2`, all else is
+/// there that was read in its stead.
+#[test]
+fn a_collection_that_was_copied_in_part() {
+    let Some(folder) = folder("a_collection_that_was_copied_in_part") else {
+        return;
+    };
+    let file = font(&folder, COLLECTION[0]);
+    let directories = [0, 1].map(|number| word(&file, 12 + 4 * number));
+    let [os2, of_second] = directories.map(|at| table(&file, at, b"OS/2"));
+    assert_eq!(os2, of_second);
+    for tag in [b"cmap", b"head"] {
+        assert!(table(&file, directories[0], tag).end < os2.start);
+    }
+    for length in [file.len() / 2, os2.start + os2.len() / 2] {
+        for number in [0, 1] {
+            refused_by_os2(&file, length, number, os2.end);
+        }
+    }
+    // The second font has its `cmap` behind `OS/2`.
+    assert!(added(&file, os2.end, 0).is_ok());
+    let error = added(&file, os2.end, 1).unwrap_err().problem();
+    let (refusal, fault) = (Refusal::NoCharmap, FontFault::CmapPastEnd);
+    assert_eq!(error, Problem::Font { refusal, fault });
 }

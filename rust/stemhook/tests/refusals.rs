@@ -229,6 +229,118 @@ fn a_font_of_a_collection_can_lack_a_charmap_or_have_17_axes() {
     }
 }
 
+/// A font of weight 700 without the last bytes of its `OS/2`, and what else it
+/// has: its last table is cut.
+fn damaged(others: &[([u8; 4], Vec<u8>)]) -> Vec<u8> {
+    let os2 = (*b"OS/2", fonts::os2(700, 5, 0));
+    let mut font = fonts::file([0, 1, 0, 0], &[others, &[os2]].concat());
+    font.pop();
+    font
+}
+
+#[test]
+fn a_damaged_table_is_31_at_the_length_field() {
+    let cmap = (*b"cmap", fonts::cmap(3, 1));
+    let font = damaged(std::slice::from_ref(&cmap));
+    let job = with_font(&font, &[0; 6]);
+    refused(&job, Refusal::DamagedTable, Some(3));
+    // One byte more, and it is whole.
+    let whole = [&font[..], &[0]].concat();
+    assert_eq!(check(&with_font(&whole, &[0; 6])), Ok(()));
+    // Of the second face, that of the second.
+    let mut job = with_font(&whole, &[1]);
+    job[1] = 2;
+    let second = job.len();
+    job.extend((font.len() as u32).to_be_bytes());
+    job.extend(&font);
+    job.extend([0; 6]);
+    refused(&job, Refusal::DamagedTable, Some(second));
+    // With a collection's number behind the file.
+    let file = fonts::collected(&[fonts::weight(400), font]);
+    assert_eq!(check(&with_collection(&file, 0)), Ok(()));
+    refused(&with_collection(&file, 1), Refusal::DamagedTable, Some(3));
+}
+
+#[test]
+fn a_damaged_table_comes_after_21_and_before_22() {
+    let cmap = (*b"cmap", fonts::cmap(3, 1));
+    let axes = (*b"fvar", fonts::fvar(&[(*b"wght", 100, 400, 900); 17]));
+    for others in [vec![], vec![cmap, axes]] {
+        let mut font = damaged(&others);
+        let job = with_font(&font, &[0; 6]);
+        refused(&job, Refusal::DamagedTable, Some(3));
+        // A count of records that the file has no room for.
+        font[4] = 0xff;
+        let job = with_font(&font, &[0; 6]);
+        refused(&job, Refusal::FontDirectory, Some(3));
+    }
+    // Before the job's own lack of bytes behind the font, and after one of the
+    // font itself.
+    let font = damaged(&[]);
+    refused(&with_font(&font, &[]), Refusal::DamagedTable, Some(3));
+    let job = with_font(&font, &[]);
+    refused(&job[..job.len() - 1], Refusal::PastEnd, Some(3));
+}
+
+#[test]
+fn nothing_rescues_a_damaged_table() {
+    let font = damaged(&[(*b"cmap", fonts::cmap(3, 1))]);
+    // An override of width, style and weight; no family, no request.
+    let mut after = vec![0, 1, 0, 0, 7];
+    after.extend(1.0_f32.to_be_bytes());
+    after.extend([0; 5]);
+    after.extend(700.0_f32.to_be_bytes());
+    after.extend([0; 5]);
+    let whole = [&font[..], &[0]].concat();
+    for held in [1, 0] {
+        let with = |font: &[u8]| {
+            let mut job = with_font(font, &after);
+            job[2] = held;
+            job
+        };
+        assert_eq!(check(&with(&whole)), Ok(()));
+        refused(&with(&font), Refusal::DamagedTable, Some(3));
+    }
+}
+
+/// Each of `head` and `post`, damaged, beside an `OS/2` that needs it or not.
+#[test]
+fn what_is_not_needed_may_be_damaged() {
+    let os2 = |selection| Some(fonts::os2(700, 5, selection));
+    let (head, post) = (*b"head", *b"post");
+    for (os2, tag, expected) in [
+        (os2(0), head, 0),
+        (None, head, 31),
+        (os2(0), post, 0),
+        (os2(1), post, 0),
+        (os2(1 | 1 << 9), post, 0),
+        (os2(1 << 9), post, 31),
+        (None, post, 0),
+    ] {
+        let mut tables = vec![(tag, vec![0; 20]), (*b"cmap", fonts::cmap(3, 1))];
+        tables.extend(os2.map(|table| (*b"OS/2", table)));
+        let job = with_font(&fonts::file(*b"true", &tables), &[0; 6]);
+        let number = check(&job).map_or_else(|refused| refused.number(), |()| 0);
+        assert_eq!(number, expected, "{tables:?}");
+    }
+}
+
+/// A damaged `fvar` gives no axes, and a damaged `cmap` is 22.
+#[test]
+fn a_damaged_fvar_or_cmap_is_not_31() {
+    let font = fonts::variable(&[(*b"wght", 100, 400, 900); 17]);
+    refused(&with_font(&font, &[0; 6]), Refusal::TooManyAxes, Some(3));
+    for length in [0, 15, 0xffff] {
+        let font = fonts::with_length(&font, 2, length);
+        assert_eq!(check(&with_font(&font, &[0; 6])), Ok(()));
+    }
+    for length in [0, 3, 0xffff] {
+        let font = fonts::with_length(&font, 1, length);
+        let job = with_font(&font, &[0; 6]);
+        refused(&job, Refusal::NoCharmap, Some(3));
+    }
+}
+
 #[test]
 fn unknown_face_numbers_are_24() {
     // A family of face 0, without faces.
@@ -327,12 +439,12 @@ fn numbers_and_refusals_go_together() {
         .iter()
         .map(|refusal| refusal.number())
         .collect();
-    assert_eq!(numbers, (16..=30).collect::<Vec<u32>>());
+    assert_eq!(numbers, (16..=31).collect::<Vec<u32>>());
     for refusal in Refusal::TABLE {
         assert_eq!(Refusal::from_number(refusal.number()), refusal);
         assert!(!refusal.meaning().is_empty());
     }
-    for number in [0, 1, 15, 31, 255, u32::MAX] {
+    for number in [0, 1, 15, 32, 255, u32::MAX] {
         assert_eq!(Refusal::from_number(number), Refusal::Unknown(number));
         assert_eq!(Refusal::Unknown(number).number(), number);
     }

@@ -99,7 +99,7 @@ fn folders_below_by_name_and_each_once() {
     assert_eq!(families(&["--recursive", &x, &x, "--most=1"]).len(), 2 * 4);
 }
 
-/// Two fonts, and eleven files that cannot be used.
+/// Two fonts, and twelve files that cannot be used.
 fn mixed(test: &str) -> Folder {
     let folder = Folder::with_two(test);
     for (name, bytes) in [
@@ -119,6 +119,8 @@ fn mixed(test: &str) -> Folder {
         .map(|n| ([b'a' + n, b'x', b'x', b'x'], 0, 0, 1))
         .collect();
     folder.font("9.ttf", &fonts::variable(&axes));
+    // Copied in part: its OS/2 is cut.
+    folder.font("half.ttf", &fonts::weight(700)[..100]);
     symlink("nowhere", folder.path().join("dead.ttf")).unwrap();
     let pipe = folder.path().join("pipe.ttf");
     assert!(Command::new("mkfifo").arg(pipe).status().unwrap().success());
@@ -132,7 +134,7 @@ fn what_cannot_be_used_is_skipped_with_its_reason() {
     let folder = mixed("files-skipped");
     let (out, notes) = stemhook(["pick", folder.text(), "--most=1"]).well_with_notes();
     assert!(out.contains("a.ttf: as it is"), "{out}");
-    assert_eq!(notes.lines().count(), 11, "{notes}");
+    assert_eq!(notes.lines().count(), 12, "{notes}");
     for (name, reason) in [
         ("1.woff", "a WOFF file"),
         ("2.woff2", "a WOFF2 file"),
@@ -146,6 +148,10 @@ fn what_cannot_be_used_is_skipped_with_its_reason() {
         ),
         ("8.ttf", "it has no cmap table\n"),
         ("9.ttf", "it has 17 variation axes\n"),
+        (
+            "half.ttf",
+            "its OS/2 table ends at byte 122, the file at 100: the file is cut or damaged\n",
+        ),
         ("dead.ttf", "No such file or directory\n"),
         ("pipe.ttf", "it is not a regular file\n"),
     ] {
@@ -164,8 +170,9 @@ fn skipped_files_in_json() {
     assert_eq!(count(Value::Number(21.0)), 7);
     assert_eq!(count(Value::Number(22.0)), 1);
     assert_eq!(count(Value::Number(23.0)), 1);
+    assert_eq!(count(Value::Number(31.0)), 1);
     assert_eq!(count(Value::Null), 2);
-    assert_eq!(refusals.len(), 11);
+    assert_eq!(refusals.len(), 12);
 }
 
 /// Runs a command on a path, quietly; it has to fail, and leave no file.

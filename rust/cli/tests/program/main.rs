@@ -4,6 +4,7 @@ mod arguments;
 mod collections;
 #[path = "../../../stemhook/tests/common/mod.rs"]
 mod common;
+mod damaged;
 mod files;
 mod job;
 mod json;

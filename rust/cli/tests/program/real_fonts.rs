@@ -152,3 +152,26 @@ fn a_collection_and_its_fonts_taken_out() {
         assert_eq!(listed, alone);
     }
 }
+
+/// Half of a collection's file is no collection of regular faces: its fonts
+/// share an OS/2 table, which lies in the other half.
+#[test]
+fn a_collection_that_was_copied_in_part() {
+    let Some([wqy]) = these("a_collection_that_was_copied_in_part", [WQY]) else {
+        return;
+    };
+    let file = fs::read(format!("{wqy}/wqy-microhei.ttc")).unwrap();
+    let folder = Folder::new("real-half");
+    let half = folder.font("half.ttc", &file[..file.len() / 2]);
+    let half = half.to_str().unwrap();
+    let said = stemhook(["list", half]);
+    assert_eq!(said.code, Some(1), "{said:?}");
+    let lines: Vec<&str> = said.out.lines().collect();
+    let length = file.len() / 2;
+    for (number, line) in lines[..2].iter().enumerate() {
+        let start = format!("{half}#{number}: unusable: its OS/2 table ends at byte ");
+        let end = format!(", the file at {length}: the file is cut or damaged");
+        assert!(line.starts_with(&start) && line.ends_with(&end), "{line}");
+    }
+    assert_eq!(lines[2..], ["0 faces, 2 unusable"]);
+}

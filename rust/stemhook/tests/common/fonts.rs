@@ -7,9 +7,25 @@ pub fn file(start: [u8; 4], tables: &[([u8; 4], Vec<u8>)]) -> Vec<u8> {
     jobs::bytes::font(start, tables)
 }
 
-/// An OS/2 table: weight class, width class, fsSelection.
+/// An OS/2 table: weight class, width class, fsSelection. A `post` table: the
+/// angle in 16.16. A `head` table: macStyle.
 #[allow(unused_imports)]
-pub use jobs::bytes::os2;
+pub use jobs::bytes::{head, os2, post};
+
+/// The same font with another offset and length in the record of a number.
+#[allow(dead_code)]
+pub fn with_record(font: &[u8], number: usize, offset: u32, length: u32) -> Vec<u8> {
+    let mut font = font.to_vec();
+    jobs::bytes::set_offset(&mut font, number, offset);
+    jobs::bytes::set_length(&mut font, number, length);
+    font
+}
+
+/// The same with another length alone.
+#[allow(dead_code)]
+pub fn with_length(font: &[u8], number: usize, length: u32) -> Vec<u8> {
+    with_record(font, number, jobs::bytes::offset(font, number), length)
+}
 
 /// A `cmap` table with one record, whose subtable lies right after it.
 #[allow(dead_code)]
