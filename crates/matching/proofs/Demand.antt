@@ -12,7 +12,7 @@ use Rattle.matching.specs.declared.order.Request.{Request}
 use Rattle.matching.specs.declared.rank.Standing.{Standing}
 use Rattle.matching.specs.declared.rank.Standing.the-variants.{Up, Down}
 use Rattle.matching.specs.Rank.{grouped}
-use Rattle.matching.specs.Packed.{packed, placeOf}
+use Rattle.matching.specs.Packed.{packed, placeOf, asksSlant}
 use Rattle.matching.specs.Below.{some, every}
 use Rattle.matching.specs.Order.{Family, angle, oblique, zeroAngle, fourteen, normalStanding, italicStanding, otherStanding, turnOf, sideStanding, rightStanding, leftStanding, obliqueStanding, widthStanding, styleStanding, weightStanding, onSide, samePercent, slantAt, inWidth, inStyle, hasGroup, widthBefore, standsFirst, choice, chosenWidth, emptyCase, Demand}
 use Rattle.font.proofs.First.{some-fails, all-fail}
@@ -294,12 +294,12 @@ module _ (family : Family) (request : Request) (bounds : Bounded family) (two : 
               leastBelow (2 ^ 64 - 1)
               (λ i.
               cond (eqb (family .face i .percent) (family .face lead .percent))
-              (packed (styleStanding (request .synthesis) (slantAt family lead) (request .style) (family .face i .style)) i)
+              (packed (styleStanding (request .synthesis) (asksSlant request && slantAt family lead) (request .style) (family .face i .style)) i)
               (2 ^ 64 - 1))
               n
 
           go : Dec (style-least ≡ 2 ^ 64 - 1) → (j : ℕ) → j < n → samePercent family lead j ≡ true → hasGroup family request j ≡ false
-          go (yes e) = none-grouped family request bounds two w refl lead refl (slantAt family lead) refl style-least refl e
+          go (yes e) = none-grouped family request bounds two w refl lead refl (asksSlant request && slantAt family lead) refl style-least refl e
           go (no d) =
               let k = placeOf style-least in
               let v = leastBelow (2 ^ 64 - 1) (λ i. cond (eqb (family .face i .percent) (family .face lead .percent) && eqb (family .face i .style) (family .face k .style)) (packed (weightStanding (request .weight) (family .face i .weight)) i) (2 ^ 64 - 1)) n in
@@ -307,6 +307,6 @@ module _ (family : Family) (request : Request) (bounds : Bounded family) (two : 
               (omega (
                 arith,
                 q,
-                r-found family request bounds two w refl lead refl (slantAt family lead) refl style-least refl weights d k refl v refl .0,
-                found-one family request bounds two w refl lead refl (slantAt family lead) refl style-least refl weights d k refl v refl,
+                r-found family request bounds two w refl lead refl (asksSlant request && slantAt family lead) refl style-least refl weights d k refl v refl .0,
+                found-one family request bounds two w refl lead refl (asksSlant request && slantAt family lead) refl style-least refl weights d k refl v refl,
               ))

@@ -11,6 +11,7 @@ pub mod Demand
 pub mod Alike
 pub mod Fill
 pub mod Gathered
+pub mod Taken
 pub mod Matched
 pub mod Listed
 pub mod Tried

@@ -1,30 +1,25 @@
 -- The one law of a scan, used for width, style and weight: the place in the least rank is the first of the things kept, or none of them has a group.
 -- And what the three scans find is the choice.
-use Prim.Native.Nat.{ℕ, _+_, _-_, _/_, _%_, _^_, _≤_, _<_, min}
+use Prim.Native.Nat.{ℕ, zero, suc, _+_, _-_, _^_, _≤_, _<_, min}
 use mathlib.Core.Path.{_≡_, refl, sym, _∙_, ap, subst}
 use mathlib.Core.Bool.{Bool, true, false, _&&_, cond}
 use mathlib.Core.Logic.{_⊎_, inl, inr, ⊎-elim}
 use native.Mathlib.Omega.{arith}
-use lib.Dec.{eqb}
-use borrow.Author.Tests.{eq-eqb, eqb-true}
+use lib.Dec.{eqb, ltb}
+use borrow.Author.Tests.{eq-eqb, eqb-true, ltb-false}
 use borrow.Author.Count.{below-more}
 use Rattle.font.specs.First.{leastBelow}
 use Rattle.matching.specs.declared.order.Request.{Request}
 use Rattle.matching.specs.declared.rank.Standing.{Standing}
 use Rattle.matching.specs.Rank.{grouped}
-use Rattle.matching.specs.Packed.{packed, placeOf, Scanned}
+use Rattle.matching.specs.Packed.{packed, placeOf, asksSlant, Scanned}
 use Rattle.matching.specs.Below.{some}
-use Rattle.matching.specs.Order.{Face, Family, widthStanding, styleStanding, weightStanding, samePercent, bears, slantAt, inWidth, inStyle, inWeight, hasGroup, choice}
+use Rattle.matching.specs.Order.{Face, Family, widthStanding, otherStanding, obliqueStanding, styleStanding, weightStanding, samePercent, bears, slantAt, inWidth, inStyle, inWeight, hasGroup, choice}
 use Rattle.matching.proofs.Below.{truth, clash, both, join, least-le, least-top, least-at, least-more}
 use Rattle.matching.proofs.Ranks.{Sized, packed-below, ungrouped, place-back}
-use Rattle.matching.proofs.Standings.{pick, width-sized, width-grouped, weight-sized, weight-grouped, style-sized}
+use Rattle.matching.proofs.Standings.{width-sized, width-grouped, weight-sized, weight-grouped, style-sized}
 use Rattle.matching.proofs.Before.{Bounded, slant-same, bears-from, bears-parts, percent-same, same-percent}
 use Rattle.matching.proofs.Choice.{none-chosen, chosen}
-
--- a place taken out of any number is below 64
-pub place-short : (r : ℕ) → placeOf r < 64
-unfolding placeOf
-place-short r = pick (λ p. p < 64) (eqb (r / 2 ^ 38 % 2) 0) (omega arith) (omega arith)
 
 -- a scan before its first turn, a turn of it, and the scan when it has passed every place
 abbrev Passed : (ℕ → Face) → (Face → ℕ → ℕ) → (Face → ℕ) → ℕ → ℕ → Type 0
@@ -44,6 +39,22 @@ module _ {face : ℕ → Face} {rank : Face → ℕ → ℕ} {number : Face → 
 
   pub scan-all : {i n best : ℕ} → Passed face rank number i best → i ≡ n → Passed face rank number n best
   scan-all {i} {n} {best} s e = subst (λ (k : ℕ). Passed face rank number k best) e s
+
+-- where a slant axis does not matter to the request, it is no matter whether there is one
+slant-asked : (request : Request) (b : Bool) (s : ℕ)
+    → styleStanding (request .synthesis) (asksSlant request && b) (request .style) s ≡ styleStanding (request .synthesis) b (request .style) s
+unfolding asksSlant styleStanding obliqueStanding otherStanding
+slant-asked request b s = go (request .synthesis) (ltb 1 (request .style)) refl
+  where
+    small : (w : ℕ) → w ≤ 1 → styleStanding true false w s ≡ styleStanding true b w s
+    small zero l = refl
+    small (suc zero) l = refl
+    small (suc (suc w)) l = absurd (omega arith)
+
+    go : (on big : Bool) → ltb 1 (request .style) ≡ big → styleStanding on ((on && big) && b) (request .style) s ≡ styleStanding on b (request .style) s
+    go false big e = refl
+    go true true e = refl
+    go true false e = small (request .style) (ltb-false 1 (request .style) e)
 
 module _ (keep : ℕ → Bool) (st : ℕ → Standing) (n : ℕ) (most : n ≤ 64) (sized : (i : ℕ) → i < n → Sized (st i)) where
   abbrev rank : ℕ → ℕ
@@ -96,27 +107,34 @@ module _ (keep : ℕ → Bool) (st : ℕ → Standing) (n : ℕ) (most : n ≤ 6
       (λ (f : grouped (st j) ≡ false). f)
       (truth (grouped (st j)))
 
-module _ (family : Family) (request : Request) (bounds : Bounded family) (two : 2 ≤ family .count) (w : ℕ) (w-is : w ≡ leastBelow (2 ^ 64 - 1) (λ i. packed (widthStanding (request .percent) (family .face i .percent)) i) (family .count)) (lead : ℕ) (lead-is : lead ≡ placeOf w) where
+-- the first in width: some face has a rank, so it is in the family
+module _ (family : Family) (request : Request) (most : family .count ≤ 64) (percents : (i : ℕ) → i < family .count → family .face i .percent < 2 ^ 32) (two : 2 ≤ family .count) (w : ℕ) (w-is : w ≡ leastBelow (2 ^ 64 - 1) (λ i. packed (widthStanding (request .percent) (family .face i .percent)) i) (family .count)) (lead : ℕ) (lead-is : lead ≡ placeOf w) where
   keep-all : ℕ → Bool
   keep-all i = true
 
-  -- the width: some face has a rank, so the first of them is in the family
-  pub lead-found : (lead < (family .count)) × ((j : ℕ) → j < (family .count) → packed (widthStanding (request .percent) (family .face lead .percent)) lead ≤ packed (widthStanding (request .percent) (family .face j .percent)) j)
+  abbrev in-width : ℕ → Standing
+  in-width i = widthStanding (request .percent) (family .face i .percent)
+
+  pub first-found : (lead < (family .count)) × ((j : ℕ) → j < (family .count) → packed (in-width lead) lead ≤ packed (in-width j) j)
   unfolding keep-all
-  lead-found =
-      let r = scan keep-all (λ i. widthStanding (request .percent) (family .face i .percent)) (family .count) (bounds .most) (λ i h. width-sized (request .percent) (family .face i .percent) (bounds .percents i h)) w lead w-is lead-is not-last in
+  first-found =
+      let r = scan keep-all in-width (family .count) most (λ i h. width-sized (request .percent) (family .face i .percent) (percents i h)) w lead w-is lead-is not-last in
       (r .0, λ j h. r .3 j h refl)
     where
       not-last : w ≡ 2 ^ 64 - 1 → ⊥
       not-last e =
           clash (width-grouped (request .percent) (family .face 0 .percent))
-          (empty keep-all (λ i. widthStanding (request .percent) (family .face i .percent)) (family .count) (bounds .most) (λ i h. width-sized (request .percent) (family .face i .percent) (bounds .percents i h)) w w-is e 0 (omega arith) refl)
+          (empty keep-all in-width (family .count) most (λ i h. width-sized (request .percent) (family .face i .percent) (percents i h)) w w-is e 0 (omega arith) refl)
+
+module _ (family : Family) (request : Request) (bounds : Bounded family) (two : 2 ≤ family .count) (w : ℕ) (w-is : w ≡ leastBelow (2 ^ 64 - 1) (λ i. packed (widthStanding (request .percent) (family .face i .percent)) i) (family .count)) (lead : ℕ) (lead-is : lead ≡ placeOf w) where
+  pub lead-found : (lead < (family .count)) × ((j : ℕ) → j < (family .count) → packed (widthStanding (request .percent) (family .face lead .percent)) lead ≤ packed (widthStanding (request .percent) (family .face j .percent)) j)
+  lead-found = first-found family request (bounds .most) (bounds .percents) two w w-is lead lead-is
 
   pub leads : (j : ℕ) → j < (family .count) → packed (inWidth family request lead) lead ≤ packed (inWidth family request j) j
   unfolding inWidth
   leads j h = lead-found .1 j h
 
-  module _ (slant : Bool) (slant-is : slant ≡ some (λ i. eqb (family .face i .percent) (family .face lead .percent) && family .face i .slant) (family .count)) (s : ℕ) (s-is : s ≡ leastBelow (2 ^ 64 - 1) (λ i. cond (eqb (family .face i .percent) (family .face lead .percent)) (packed (styleStanding (request .synthesis) slant (request .style) (family .face i .style)) i) (2 ^ 64 - 1)) (family .count)) where
+  module _ (slant : Bool) (slant-is : slant ≡ (asksSlant request && some (λ i. eqb (family .face i .percent) (family .face lead .percent) && family .face i .slant) (family .count))) (s : ℕ) (s-is : s ≡ leastBelow (2 ^ 64 - 1) (λ i. cond (eqb (family .face i .percent) (family .face lead .percent)) (packed (styleStanding (request .synthesis) slant (request .style) (family .face i .style)) i) (2 ^ 64 - 1)) (family .count)) where
     -- the style: at the percent of `lead` the slant axes are those that the scan found
     abbrev at-width : ℕ → Bool
     at-width i = eqb (family .face i .percent) (family .face lead .percent)
@@ -126,9 +144,12 @@ module _ (family : Family) (request : Request) (bounds : Bounded family) (two : 
 
     style-here : (j : ℕ) → samePercent family lead j ≡ true → inStyle family request j ≡ standing j
     unfolding inStyle slantAt samePercent
-    style-here j e = ap (λ (b : Bool). styleStanding (request .synthesis) b (request .style) (family .face j .style)) (slant-same family lead j e ∙ sym at-lead)
+    style-here j e =
+        ap (λ (b : Bool). styleStanding (request .synthesis) b (request .style) (family .face j .style)) (slant-same family lead j e)
+        ∙ sym (slant-asked request (slantAt family lead) (family .face j .style))
+        ∙ ap (λ (b : Bool). styleStanding (request .synthesis) b (request .style) (family .face j .style)) (sym at-lead)
       where
-        at-lead : slant ≡ slantAt family lead
+        at-lead : slant ≡ (asksSlant request && slantAt family lead)
         at-lead = slant-is
 
     sized : (i : ℕ) → i < (family .count) → Sized (standing i)
@@ -141,6 +162,11 @@ module _ (family : Family) (request : Request) (bounds : Bounded family) (two : 
     pub found-none : s ≡ 2 ^ 64 - 1 → family .count ≡ choice family request
     found-none q = sym (none-chosen family request bounds two lead (lead-found .0) leads (none-grouped q))
 
+    -- the first in style at the percent
+    pub k-found : (s ≡ 2 ^ 64 - 1 → ⊥) → (k : ℕ) → k ≡ placeOf s
+        → (k < (family .count)) × (at-width k ≡ true) × (grouped (standing k) ≡ true) × ((j : ℕ) → j < (family .count) → at-width j ≡ true → packed (standing k) k ≤ packed (standing j) j)
+    k-found some-style k k-is = scan at-width standing (family .count) (bounds .most) sized s k s-is k-is some-style
+
     module _ (weigh : (i : ℕ) → i < family .count → family .face i .weight < 2 ^ 32) (some-style : s ≡ 2 ^ 64 - 1 → ⊥) (k : ℕ) (k-is : k ≡ placeOf s) (v : ℕ) (v-is : v ≡ leastBelow (2 ^ 64 - 1) (λ i. cond (eqb (family .face i .percent) (family .face lead .percent) && eqb (family .face i .style) (family .face k .style)) (packed (weightStanding (request .weight) (family .face i .weight)) i) (2 ^ 64 - 1)) (family .count)) where
       abbrev of-style : ℕ → Bool
       of-style i = eqb (family .face i .percent) (family .face lead .percent) && eqb (family .face i .style) (family .face k .style)
@@ -148,8 +174,8 @@ module _ (family : Family) (request : Request) (bounds : Bounded family) (two : 
       abbrev weighing : ℕ → Standing
       weighing i = weightStanding (request .weight) (family .face i .weight)
 
-      k-found : (k < (family .count)) × (at-width k ≡ true) × (grouped (standing k) ≡ true) × ((j : ℕ) → j < (family .count) → at-width j ≡ true → packed (standing k) k ≤ packed (standing j) j)
-      k-found = scan at-width standing (family .count) (bounds .most) sized s k s-is k-is some-style
+      bearer : (k < (family .count)) × (at-width k ≡ true) × (grouped (standing k) ≡ true) × ((j : ℕ) → j < (family .count) → at-width j ≡ true → packed (standing k) k ≤ packed (standing j) j)
+      bearer = k-found some-style k k-is
 
       weights : (i : ℕ) → i < (family .count) → Sized (weighing i)
       weights i h = weight-sized (request .weight) (family .face i .weight) (weigh i h)
@@ -160,21 +186,21 @@ module _ (family : Family) (request : Request) (bounds : Bounded family) (two : 
           not-last : v ≡ 2 ^ 64 - 1 → ⊥
           not-last e =
               clash (weight-grouped (request .weight) (family .face k .weight))
-              (empty of-style weighing (family .count) (bounds .most) weights v v-is e k (k-found .0) (join (k-found .1) (eq-eqb (family .face k .style) (family .face k .style) refl)))
+              (empty of-style weighing (family .count) (bounds .most) weights v v-is e k (bearer .0) (join (bearer .1) (eq-eqb (family .face k .style) (family .face k .style) refl)))
 
       pub found-one : placeOf v ≡ choice family request
       unfolding samePercent hasGroup inWeight
       found-one =
           sym
-          (chosen family request bounds two lead (lead-found .0) leads weigh k (k-found .0) (k-found .1)
-          (ap grouped (style-here k (k-found .1)) ∙ k-found .2)
-          (λ j h e. rw (style-here k (k-found .1), style-here j e) (k-found .3 j h e))
+          (chosen family request bounds two lead (lead-found .0) leads weigh k (bearer .0) (bearer .1)
+          (ap grouped (style-here k (bearer .1)) ∙ bearer .2)
+          (λ j h e. rw (style-here k (bearer .1), style-here j e) (bearer .3 j h e))
           (placeOf v) (r-found .0) bearing
           (λ j h b.
           let t = bears-parts family k j b in
           r-found .3 j h
           (join
-          (eq-eqb (family .face j .percent) (family .face lead .percent) (percent-same family k j (t .0) ∙ eqb-true (family .face k .percent) (family .face lead .percent) (k-found .1)))
+          (eq-eqb (family .face j .percent) (family .face lead .percent) (percent-same family k j (t .0) ∙ eqb-true (family .face k .percent) (family .face lead .percent) (bearer .1)))
           (eq-eqb (family .face j .style) (family .face k .style) (t .1)))))
         where
           bearing : bears family k (placeOf v) ≡ true
@@ -182,5 +208,5 @@ module _ (family : Family) (request : Request) (bounds : Bounded family) (two : 
               let t = both (at-width (placeOf v)) (eqb (family .face (placeOf v) .style) (family .face k .style)) (r-found .1) in
               bears-from family k (placeOf v)
               (same-percent family k (placeOf v)
-              (eqb-true (family .face (placeOf v) .percent) (family .face lead .percent) (t .0) ∙ sym (eqb-true (family .face k .percent) (family .face lead .percent) (k-found .1))))
+              (eqb-true (family .face (placeOf v) .percent) (family .face lead .percent) (t .0) ∙ sym (eqb-true (family .face k .percent) (family .face lead .percent) (bearer .1))))
               (eqb-true (family .face (placeOf v) .style) (family .face k .style) (t .1))

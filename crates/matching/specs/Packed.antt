@@ -2,7 +2,7 @@
 use Prim.Native.Nat.{ℕ, _+_, _-_, _*_, _/_, _%_, _^_, _<_}
 use mathlib.Core.Path.{_≡_}
 use mathlib.Core.Bool.{Bool, _&&_, cond}
-use lib.Dec.{eqb}
+use lib.Dec.{eqb, ltb}
 use Rattle.font.specs.First.{leastBelow}
 use Rattle.matching.specs.declared.order.Request.{Request}
 use Rattle.matching.specs.declared.rank.Standing.{Standing}
@@ -29,7 +29,10 @@ abbrev pub weightRank : Request → ℕ → ℕ → Face → ℕ → ℕ
 weightRank request percent style face i =
     cond (eqb (face .percent) percent && eqb (face .style) style) (packed (weightStanding (request .weight) (face .weight)) i) (2 ^ 64 - 1)
 
--- whether a face is of the percent and has a slant axis
+-- whether a slant axis matters to the request, and whether a face is of the percent and has one
+unfoldable pub asksSlant : Request → Bool
+asksSlant request = request .synthesis && ltb 1 (request .style)
+
 abbrev pub slants : ℕ → Face → Bool
 slants percent face = eqb (face .percent) percent && face .slant
 

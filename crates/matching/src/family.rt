@@ -2,7 +2,7 @@
 ghost use mathlib.Core.Path.{_≡_};
 ghost use Rattle.matching.specs.Family.{madeOf, fetched};
 use crate::matching;
-use crate::rows;
+use crate::rows::COLUMNS;
 use crate::stages;
 use font::font::FontInfo;
 
@@ -30,11 +30,29 @@ impl FamilyInfo {
     pub fn new(fonts: [FontInfo; 64], count: usize) -> Made
         ensures { λ r. ⌜ r ≡ madeOf fonts count ⌝ }
     {
-        let refusal = matching::faces_refusal(fonts, count);
+        if 64 < count {
+            let family = FamilyInfo {
+                fonts,
+                count,
+                default_font: 0,
+            };
+            return Made {
+                refusal: 19,
+                family,
+            };
+        }
+        let mut rows = [[0u32; COLUMNS]; 64];
+        let mut refusal: u8 = 0;
+        let mut i: usize = 0;
+        while i < count {
+            let font = fonts[i];
+            refusal = matching::take_face(&mut rows, i, font, refusal);
+            i += 1;
+        }
         let mut default_font: usize = 0;
         if refusal == 0 {
-            let rows = rows::rows_of(fonts, count);
-            default_font = stages::default_place(&rows, count);
+            let own = [0u8; 0];
+            default_font = stages::default_place(&rows, &own, count);
         }
         let family = FamilyInfo {
             fonts,

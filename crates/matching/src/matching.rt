@@ -1,10 +1,19 @@
 // Implementation of the CSS font matching algorithm, on a family by value.
 ghost use mathlib.Core.Path.{_≡_};
 ghost use mathlib.Core.Bool.{cond};
+ghost use mathlib.Core.List.{[]};
+ghost use Prim.Native.Nat.{_<_};
 ghost use lib.Dec.{eqb};
-ghost use Rattle.matching.specs.Matching.{styleNumber, requestOf, attributesFrom, facesRefusal, familyRefusal, matchFont, ChosenOf, equalList};
+ghost use lib.ListN.{length, set};
+ghost use Rattle.font.specs.Attributes.{acceptedAttributes};
+ghost use Rattle.font.specs.Overrides.{faceRefusal};
+ghost use Rattle.matching.specs.Order.{laidOut};
+ghost use Rattle.matching.specs.Matching.{styleNumber, requestOf, attributesFrom, facesRefusal, matchFont, ChosenOf, equalList};
+ghost use Rattle.matching.specs.Rows.{faceRow, eitherRefusal};
 use crate::order::Request;
 use crate::rows;
+use crate::rows::COLUMNS;
+use crate::rows::Row;
 use crate::stages;
 use crate::stages::Places;
 use font::attributes::Angle;
@@ -56,10 +65,16 @@ pub fn request_of(attributes: Attributes, synthesize_style: bool) -> Request
     }
 }
 
-// Of two refusals of faces, 26 where the later one is.
+// Of two refusals of faces the one that counts: 19, then 26.
 fn either_refusal(before: u8, found: u8) -> u8
-    ensures { λ r. ⌜ r ≡ cond (eqb found 26) 26 before ⌝ }
+    ensures { λ r. ⌜ r ≡ eitherRefusal before found ⌝ }
 {
+    if found == 19 {
+        return 19;
+    }
+    if before == 19 {
+        return 19;
+    }
     if found == 26 { 26 } else { before }
 }
 
@@ -74,23 +89,28 @@ pub(crate) fn faces_refusal(fonts: [FontInfo; 64], count: usize) -> u8
     let mut i: usize = 0;
     while i < count {
         let font = fonts[i];
-        let found = overrides::face_refusal(font);
-        if found == 19 {
-            return 19;
-        }
-        refusal = either_refusal(refusal, found);
+        refusal = either_refusal(refusal, overrides::face_refusal(font));
         i += 1;
     }
     refusal
 }
 
-// The refusal of a call on a family with a request: 19, 26 or 0.
-fn family_refusal(fonts: [FontInfo; 64], count: usize, attributes: Attributes) -> u8
-    ensures { λ r. ⌜ r ≡ familyRefusal fonts count attributes ⌝ }
+// Writes the row of the face at a place. Gives the refusal of the faces so far.
+pub(crate) fn take_face(rows: &mut [Row; 64], place: usize, font: FontInfo, before: u8) -> u8
+    requires { ⌜ (place < 64) × (length (now rows) ≡ 64) ⌝ }
+    ensures { λ r. ⌜ r ≡ eitherRefusal before (faceRefusal font) ⌝ }
+    ensures { λ _. ⌜ now (rows .exit) ≡ set (now (rows .entry)) place (faceRow font) ⌝ }
 {
-    let refusal = faces_refusal(fonts, count);
-    if refusal != 0 {
-        return refusal;
+    rows[place] = rows::face_row(font);
+    either_refusal(before, overrides::face_refusal(font))
+}
+
+// The refusal of a call on a family with a request, by that of the faces.
+fn with_request(faces: u8, attributes: Attributes) -> u8
+    ensures { λ r. ⌜ r ≡ cond (eqb faces 0) (cond (acceptedAttributes attributes) 0 26) faces ⌝ }
+{
+    if faces != 0 {
+        return faces;
     }
     if attributes.accepted() {
         return 0;
@@ -115,16 +135,37 @@ pub fn match_font(
         style,
         weight,
     };
-    let refusal = family_refusal(fonts, count, attributes);
+    if 64 < count {
+        return Choice::Refused(19);
+    }
+    let mut rows = [[0u32; COLUMNS]; 64];
+    let mut found: u8 = 0;
+    let mut i: usize = 0;
+    while i < count {
+        let font = fonts[i];
+        found = take_face(&mut rows, i, font, found);
+        i += 1;
+    }
+    let refusal = with_request(found, attributes);
     if refusal != 0 {
         return Choice::Refused(refusal);
     }
-    let rows = rows::rows_of(fonts, count);
-    let place = stages::choose(&rows, count, request_of(attributes, synthesize_style));
+    let own = [0u8; 0];
+    let place = stages::choose(&rows, &own, count, request_of(attributes, synthesize_style));
     if place < count {
         return Choice::Place(place);
     }
     Choice::Nothing
+}
+
+// No equal list.
+fn refused_list(refusal: u8) -> Matches
+    ensures { λ r. ⌜ (r .refusal ≡ refusal) × (r .list ≡ laidOut []) ⌝ }
+{
+    Matches {
+        refusal,
+        list: stages::none(),
+    }
 }
 
 // Every place whose exact ratio, style and weight equal the chosen face's, in place order.
@@ -143,15 +184,23 @@ pub fn match_fonts(
         style,
         weight,
     };
-    let refusal = family_refusal(fonts, count, attributes);
-    if refusal != 0 {
-        return Matches {
-            refusal,
-            list: stages::none(),
-        };
+    if 64 < count {
+        return refused_list(19);
     }
-    let rows = rows::rows_of(fonts, count);
-    let place = stages::choose(&rows, count, request_of(attributes, synthesize_style));
+    let mut rows = [[0u32; COLUMNS]; 64];
+    let mut found: u8 = 0;
+    let mut i: usize = 0;
+    while i < count {
+        let font = fonts[i];
+        found = take_face(&mut rows, i, font, found);
+        i += 1;
+    }
+    let refusal = with_request(found, attributes);
+    if refusal != 0 {
+        return refused_list(refusal);
+    }
+    let own = [0u8; 0];
+    let place = stages::choose(&rows, &own, count, request_of(attributes, synthesize_style));
     let list = stages::equal_places(&rows, count, place);
     Matches { refusal: 0, list }
 }

@@ -1,11 +1,9 @@
-// A face as the code carries it: a row of five numbers, at the columns below.
+// A face as the code carries it: a row of five numbers, at the columns below. A family is rows, and which of them its places have.
 ghost use mathlib.Core.Path.{_≡_};
 ghost use mathlib.Core.Bool.{_&&_};
-ghost use mathlib.Core.List.{[]};
-ghost use Prim.Native.Nat.{_<_, _≤_};
-ghost use lib.ListN.{getD};
+ghost use Prim.Native.Nat.{_<_};
 ghost use Rattle.matching.specs.Order.{sameFace};
-ghost use Rattle.matching.specs.Rows.{faceOfRow, rowOf, faceRow, RowsOf};
+ghost use Rattle.matching.specs.Rows.{faceOfRow, numberAt, placeRow, HasNumber, HasRow, rowOf, faceRow};
 use crate::axes;
 use crate::matching;
 use font::attributes::Attributes;
@@ -50,22 +48,39 @@ pub(crate) fn both(a: bool, b: bool) -> bool
     if a { b } else { false }
 }
 
-// Whether the exact ratio, style and weight of the face at a place equal the chosen face's.
-pub fn same_face(rows: &[Row; 64], chosen: usize, i: usize) -> bool
-    requires { ⌜ (chosen < 64) × (i < 64) ⌝ }
-    ensures { λ r. ⌜ r ≡ sameFace (faceOfRow (getD (now (rows .entry)) i [])) (faceOfRow (getD (now (rows .entry)) chosen [])) ⌝ }
+// The number of the row that the face at a place has: as the family's members have it, 16 bits for each place; without
+// members each place has its own row.
+fn number_at(members: &[u8], place: usize) -> usize
+    requires { ⌜ (place < 64) × HasNumber (now members) place ⌝ }
+    ensures { λ r. ⌜ (r ≡ numberAt (now (members .entry)) place) × (r < 65536) ⌝ }
+{
+    if members.len() == 0 {
+        return place;
+    }
+    (members[2 * place] as usize) * 256 + members[2 * place + 1] as usize
+}
+
+// The row of the face at a place of a family.
+pub fn place_row(rows: &[Row], members: &[u8], place: usize) -> Row
+    requires { ⌜ HasRow (now rows) (now members) place ⌝ }
+    ensures { λ r. ⌜ r ≡ placeRow (now (rows .entry)) (now (members .entry)) place ⌝ }
+{
+    let number = number_at(members, place);
+    rows[number]
+}
+
+// Whether the exact ratio, style and weight of a face equal the chosen face's.
+pub fn same_face(chosen: Row, face: Row) -> bool
+    ensures { λ r. ⌜ r ≡ sameFace (faceOfRow face) (faceOfRow chosen) ⌝ }
 {
     both(
-        rows[i][RATIO] == rows[chosen][RATIO],
-        both(
-            rows[i][STYLE] == rows[chosen][STYLE],
-            rows[i][WEIGHT] == rows[chosen][WEIGHT],
-        ),
+        face[RATIO] == chosen[RATIO],
+        both(face[STYLE] == chosen[STYLE], face[WEIGHT] == chosen[WEIGHT]),
     )
 }
 
 // The row of a face by value, with no mark but that of the slant axis.
-fn face_row(font: FontInfo) -> Row
+pub(crate) fn face_row(font: FontInfo) -> Row
     ensures { λ r. ⌜ r ≡ faceRow font ⌝ }
 {
     let attributes = font.attributes;
@@ -73,19 +88,4 @@ fn face_row(font: FontInfo) -> Row
         return row(attributes, 1);
     }
     row(attributes, 0)
-}
-
-// The rows of the faces of a family by value.
-pub(crate) fn rows_of(fonts: [FontInfo; 64], count: usize) -> [Row; 64]
-    requires { ⌜ count ≤ 64 ⌝ }
-    ensures { λ r. ⌜ RowsOf fonts count r ⌝ }
-{
-    let mut rows = [[0u32; COLUMNS]; 64];
-    let mut i: usize = 0;
-    while i < count {
-        let font = fonts[i];
-        rows[i] = face_row(font);
-        i += 1;
-    }
-    rows
 }

@@ -1,14 +1,14 @@
-// The choice of a face from the rows of a family: three scans for the least rank, and no copy of the candidates.
-// And the default and the equal list.
+// The choice of a face from the rows of a family: scans for the least rank. The faces that remain after a stage are neither
+// copied nor listed: the next one scans the family with a test. And the default and the equal list.
 ghost use mathlib.Core.Path.{_≡_};
 ghost use mathlib.Core.Bool.{cond, _&&_};
 ghost use Prim.Native.Nat.{_-_, _^_, _<_, _≤_};
 ghost use mathlib.Core.List.{[]};
-ghost use Rattle.matching.specs.Packed.{packed, widthRank, styleRank, weightRank, slants, Scanned};
+ghost use Rattle.matching.specs.Packed.{packed, widthRank, styleRank, weightRank, asksSlant, slants, Scanned};
 ghost use Rattle.matching.specs.Below.{some};
 ghost use Rattle.matching.specs.Order.{Face, widthStanding, styleStanding, weightStanding, choice, equalPlaces, laidOut};
 ghost use Rattle.matching.specs.Matching.{defaultPlace};
-ghost use Rattle.matching.specs.Rows.{familyOfRows};
+ghost use Rattle.matching.specs.Rows.{familyOfRows, Placed};
 use crate::matching;
 use crate::order;
 use crate::order::Request;
@@ -53,46 +53,65 @@ fn weight_rank(width: bool, style: bool, wanted: u32, weight: u32, place: usize)
 }
 
 // The least rank in width.
-fn width_stage(rows: &[Row; 64], count: usize, request: Request) -> u64
-    requires { ⌜ count ≤ 64 ⌝ }
-    ensures { λ r. ⌜ Scanned (familyOfRows (now (rows .entry)) count) (widthRank request) (λ (f : Face). f .percent) r ⌝ }
+fn width_stage(rows: &[Row], members: &[u8], count: usize, request: Request) -> u64
+    requires { ⌜ Placed (now rows) (now members) count ⌝ }
+    ensures { λ r. ⌜ Scanned (familyOfRows (now (rows .entry)) (now (members .entry)) count) (widthRank request) (λ (f : Face). f .percent) r ⌝ }
 {
     let mut best = rank::NOWHERE;
     let mut i: usize = 0;
     while i < count {
-        let next = width_rank(request.percent, rows[i][rows::PERCENT], i);
+        let face = rows::place_row(rows, members, i);
+        let next = width_rank(request.percent, face[rows::PERCENT], i);
         best = rank::lower(best, next);
         i += 1;
     }
     best
 }
 
-// Whether a face of the percent has a slant axis.
-fn slant_at(rows: &[Row; 64], count: usize, percent: u32) -> bool
-    requires { ⌜ count ≤ 64 ⌝ }
-    ensures { λ r. ⌜ r ≡ some (λ i. slants percent (familyOfRows (now (rows .entry)) count .face i)) count ⌝ }
+// Whether a slant axis matters to a request: to an oblique one with synthesis on.
+fn asks_slant(request: Request) -> bool
+    ensures { λ r. ⌜ r ≡ asksSlant request ⌝ }
 {
-    let mut i: usize = 0;
-    while i < count {
-        let same = rows[i][rows::PERCENT] == percent;
-        if rows::both(same, rows[i][rows::MARKS] % 2 == 1) {
-            return true;
+    rows::both(request.synthesis, 1 < request.style)
+}
+
+// Whether a face of the percent has a slant axis, where it matters to the request.
+fn slant_at(rows: &[Row], members: &[u8], count: usize, percent: u32, request: Request) -> bool
+    requires { ⌜ Placed (now rows) (now members) count ⌝ }
+    ensures { λ r. ⌜ r ≡ (asksSlant request && some (λ i. slants percent (familyOfRows (now (rows .entry)) (now (members .entry)) count .face i)) count) ⌝ }
+{
+    if asks_slant(request) {
+        let mut i: usize = 0;
+        while i < count {
+            let face = rows::place_row(rows, members, i);
+            let same = face[rows::PERCENT] == percent;
+            if rows::both(same, face[rows::MARKS] % 2 == 1) {
+                return true;
+            }
+            i += 1;
         }
-        i += 1;
     }
     false
 }
 
 // The least rank in style among the faces of the percent.
-fn style_stage(rows: &[Row; 64], count: usize, percent: u32, slant: bool, request: Request) -> u64
-    requires { ⌜ count ≤ 64 ⌝ }
-    ensures { λ r. ⌜ Scanned (familyOfRows (now (rows .entry)) count) (styleRank request percent slant) (λ (f : Face). f .style) r ⌝ }
+fn style_stage(
+    rows: &[Row],
+    members: &[u8],
+    count: usize,
+    percent: u32,
+    slant: bool,
+    request: Request,
+) -> u64
+    requires { ⌜ Placed (now rows) (now members) count ⌝ }
+    ensures { λ r. ⌜ Scanned (familyOfRows (now (rows .entry)) (now (members .entry)) count) (styleRank request percent slant) (λ (f : Face). f .style) r ⌝ }
 {
     let mut best = rank::NOWHERE;
     let mut i: usize = 0;
     while i < count {
-        let width = rows[i][rows::PERCENT] == percent;
-        let next = style_rank(width, slant, request, rows[i][rows::STYLE], i);
+        let face = rows::place_row(rows, members, i);
+        let width = face[rows::PERCENT] == percent;
+        let next = style_rank(width, slant, request, face[rows::STYLE], i);
         best = rank::lower(best, next);
         i += 1;
     }
@@ -100,50 +119,58 @@ fn style_stage(rows: &[Row; 64], count: usize, percent: u32, slant: bool, reques
 }
 
 // The least rank in weight among the faces of the percent and the style.
-fn weight_stage(rows: &[Row; 64], count: usize, percent: u32, style: u32, request: Request) -> u64
-    requires { ⌜ count ≤ 64 ⌝ }
-    ensures { λ r. ⌜ Scanned (familyOfRows (now (rows .entry)) count) (weightRank request percent style) (λ (f : Face). f .weight) r ⌝ }
+fn weight_stage(
+    rows: &[Row],
+    members: &[u8],
+    count: usize,
+    percent: u32,
+    style: u32,
+    request: Request,
+) -> u64
+    requires { ⌜ Placed (now rows) (now members) count ⌝ }
+    ensures { λ r. ⌜ Scanned (familyOfRows (now (rows .entry)) (now (members .entry)) count) (weightRank request percent style) (λ (f : Face). f .weight) r ⌝ }
 {
     let mut best = rank::NOWHERE;
     let mut i: usize = 0;
     while i < count {
-        let width = rows[i][rows::PERCENT] == percent;
-        let bears = rows[i][rows::STYLE] == style;
-        let next = weight_rank(width, bears, request.weight, rows[i][rows::WEIGHT], i);
+        let face = rows::place_row(rows, members, i);
+        let width = face[rows::PERCENT] == percent;
+        let bears = face[rows::STYLE] == style;
+        let next = weight_rank(width, bears, request.weight, face[rows::WEIGHT], i);
         best = rank::lower(best, next);
         i += 1;
     }
     best
 }
 
-// The chosen place, or the count where no face is chosen.
+// The chosen place, or the count where no face is chosen. Each face's row is looked up by its place (`rows::place_row`).
 // Only our own crates call this and `default_place`: a family over 64 faces is refused before.
-pub fn choose(rows: &[Row; 64], count: usize, request: Request) -> usize
-    requires { ⌜ count ≤ 64 ⌝ }
-    ensures { λ r. ⌜ r ≡ choice (familyOfRows (now (rows .entry)) count) request ⌝ }
+pub fn choose(rows: &[Row], members: &[u8], count: usize, request: Request) -> usize
+    requires { ⌜ Placed (now rows) (now members) count ⌝ }
+    ensures { λ r. ⌜ r ≡ choice (familyOfRows (now (rows .entry)) (now (members .entry)) count) request ⌝ }
 {
     if count < 2 {
         return 0;
     }
-    let first = rank::place_of(width_stage(rows, count, request));
-    let percent = rows[first][rows::PERCENT];
-    let slant = slant_at(rows, count, percent);
-    let best = style_stage(rows, count, percent, slant, request);
+    let first = rank::place_of(width_stage(rows, members, count, request));
+    let percent = rows::place_row(rows, members, first)[rows::PERCENT];
+    let slant = slant_at(rows, members, count, percent, request);
+    let best = style_stage(rows, members, count, percent, slant, request);
     if best == rank::NOWHERE {
         return count;
     }
     let bearer = rank::place_of(best);
-    let style = rows[bearer][rows::STYLE];
-    rank::place_of(weight_stage(rows, count, percent, style, request))
+    let style = rows::place_row(rows, members, bearer)[rows::STYLE];
+    rank::place_of(weight_stage(rows, members, count, percent, style, request))
 }
 
 // The choice for default attributes with synthesis off, or 0.
-pub fn default_place(rows: &[Row; 64], count: usize) -> usize
-    requires { ⌜ count ≤ 64 ⌝ }
-    ensures { λ r. ⌜ r ≡ defaultPlace (familyOfRows (now (rows .entry)) count) ⌝ }
+pub fn default_place(rows: &[Row], members: &[u8], count: usize) -> usize
+    requires { ⌜ Placed (now rows) (now members) count ⌝ }
+    ensures { λ r. ⌜ r ≡ defaultPlace (familyOfRows (now (rows .entry)) (now (members .entry)) count) ⌝ }
 {
     let request = matching::request_of(Attributes::DEFAULT, false);
-    let place = choose(rows, count, request);
+    let place = choose(rows, members, count, request);
     if place < count { place } else { 0 }
 }
 
@@ -167,7 +194,7 @@ pub(crate) fn none() -> Places
 // The count, as any number not below it, stands for no chosen face, which has no equal place.
 pub(crate) fn equal_places(rows: &[Row; 64], count: usize, chosen: usize) -> Places
     requires { ⌜ count ≤ 64 ⌝ }
-    ensures { λ r. ⌜ r ≡ laidOut (equalPlaces (familyOfRows (now (rows .entry)) count) chosen) ⌝ }
+    ensures { λ r. ⌜ r ≡ laidOut (equalPlaces (familyOfRows (now (rows .entry)) [] count) chosen) ⌝ }
 {
     if count <= chosen {
         return none();
@@ -176,7 +203,7 @@ pub(crate) fn equal_places(rows: &[Row; 64], count: usize, chosen: usize) -> Pla
     let mut found: usize = 0;
     let mut i: usize = 0;
     while i < count {
-        if rows::same_face(rows, chosen, i) {
+        if rows::same_face(rows[chosen], rows[i]) {
             places[found] = i;
             found += 1;
         }

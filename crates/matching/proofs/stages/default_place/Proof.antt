@@ -22,8 +22,8 @@ choose-requires c κs = search needs
 returns : tie.Need-returns
 unfolding defaultPlace defaultAttributes single ofInt round ofBits
 returns c =
-    let a = c .before .before .before .args in
-    let f = familyOfRows (now (a .rows)) (a .count) in
+    let a = c .before .before .before .before .args in
+    let f = familyOfRows (now (a .rows)) (now (a .members)) (a .count) in
     let r = requestOf defaultAttributes false in
     let q : c .before .choose .result ≡ choice f r = c .before .choose .ensures ∙ ap (choice f) (c .before .before .request-of .ensures) in
     q ∙ sym (rw (lt-ltb (choice f r) (a .count) (omega arith)))
@@ -31,8 +31,8 @@ returns c =
 returns-2 : tie.Need-returns-2
 unfolding defaultPlace defaultAttributes single ofInt round ofBits
 returns-2 c =
-    let a = c .before .before .before .args in
-    let f = familyOfRows (now (a .rows)) (a .count) in
+    let a = c .before .before .before .before .args in
+    let f = familyOfRows (now (a .rows)) (now (a .members)) (a .count) in
     let r = requestOf defaultAttributes false in
     let q : c .before .choose .result ≡ choice f r = c .before .choose .ensures ∙ ap (choice f) (c .before .before .request-of .ensures) in
     sym (rw (le-ltb (choice f r) (a .count) (omega arith)))

@@ -10,7 +10,7 @@ use borrow.Author.Tests.{lt-ltb, le-ltb}
 use denote.Ref.{now}
 use Rattle.matching.specs.Below.{placesBelow}
 use Rattle.matching.specs.Order.{sameFace, equalPlaces, padded, laidOut}
-use Rattle.matching.specs.Rows.{faceOfRow}
+use Rattle.matching.specs.Rows.{faceOfRow, numberAt, placeRow}
 use Rattle.matching.proofs.Listed.{grown, kept}
 use borrow.Author.Needs.{needs}
 use Rattle.matching.proofs.stages.equal_places.Statement.{statement}
@@ -42,6 +42,18 @@ loop-holds : tie.Need-loop-holds Inv-loop μ-loop
 unfolding placesBelow padded
 loop-holds c = (omega arith, refl, refl, omega arith)
 
+mul-same-face : tie.Need-mul-same-face Inv-loop μ-loop
+mul-same-face c = search needs
+
+element-copy-out-same-face : tie.Need-element-copy-out-same-face Inv-loop μ-loop
+element-copy-out-same-face c = search needs
+
+mul-same-face-2 : tie.Need-mul-same-face-2 Inv-loop μ-loop
+mul-same-face-2 c = search needs
+
+element-copy-out-same-face-2 : tie.Need-element-copy-out-same-face-2 Inv-loop μ-loop
+element-copy-out-same-face-2 c = search needs
+
 same-face-requires : tie.Need-same-face-requires Inv-loop μ-loop
 same-face-requires c κs = search needs
 
@@ -62,8 +74,8 @@ loop-less c = search needs
 
 loop-again : tie.Need-loop-again Inv-loop μ-loop
 loop-again c =
-    let l = c .before .before .before .loop in
-    let a = c .before .before .before .before .before .args in
+    let l = c .before .before .before .before .before .loop in
+    let a = c .before .before .before .before .before .before .before .args in
     let p = equal (now (a .rows)) (a .chosen) in
     let same = c .before .same-face .ensures in
     ⊎-elim
@@ -72,7 +84,7 @@ loop-again c =
     (c .if2 .came)
 
 returns-2 : tie.Need-returns-2 Inv-loop μ-loop
-unfolding equalPlaces laidOut
+unfolding equalPlaces laidOut numberAt placeRow
 returns-2 c =
     let a = c .before .before .before .args in
     let end : c .before .loop .i ≡ a .count = omega arith in
@@ -89,6 +101,10 @@ equal-places-spec =
     none-requires
     returns
     loop-holds
+    mul-same-face
+    element-copy-out-same-face
+    mul-same-face-2
+    element-copy-out-same-face-2
     same-face-requires
     mul-places
     array-write-places

@@ -1,58 +1,54 @@
 -- The invariant: none of the places passed has the percent and a slant axis.
 use Prim.Native.Nat.{ℕ, _-_, _≤_}
 use mathlib.Core.Path.{_≡_, refl, sym, _∙_, ap}
-use mathlib.Core.Bool.{Bool, false}
-use mathlib.Core.List.{List, []}
+use mathlib.Core.Bool.{Bool, true, false, _&&_}
+use mathlib.Core.List.{List}
 use native.Mathlib.Omega.{arith}
-use lib.ListN.{getD}
 use denote.Ref.{now}
 use Rattle.matching.specs.Below.{some}
 use Rattle.matching.specs.Packed.{slants}
-use Rattle.matching.specs.Rows.{faceOfRow}
+use Rattle.matching.specs.Rows.{faceOfRow, placeRow}
 use Rattle.matching.proofs.Below.{some-at, some-more}
 use borrow.Author.Needs.{needs}
 use Rattle.matching.proofs.stages.slant_at.Statement.{statement}
 use Rattle.matching.proofs.stages.slant_at.Tie as tie
 
-abbrev slanted : List (List ℕ) → ℕ → ℕ → Bool
-slanted rows percent j = slants percent (faceOfRow (getD rows j []))
+abbrev slanted : List (List ℕ) → List ℕ → ℕ → ℕ → Bool
+slanted rows members percent j = slants percent (faceOfRow (placeRow rows members j))
 
 abbrev Inv-loop : tie.InvT-loop
-Inv-loop rows count percent i₀ i = (i ≤ count) × (some (slanted rows percent) i ≡ false)
+Inv-loop rows members count percent i₀ i = (i ≤ count) × (some (slanted rows members percent) i ≡ false)
 
 abbrev μ-loop : tie.MeasureT-loop
-μ-loop rows count percent i₀ i = count - i
+μ-loop rows members count percent i₀ i = count - i
+
+asks-slant-requires : tie.Need-asks-slant-requires Inv-loop μ-loop
+asks-slant-requires c κs = search needs
 
 loop-holds : tie.Need-loop-holds Inv-loop μ-loop
 unfolding some
 loop-holds c = (omega arith, refl)
 
-mul-same : tie.Need-mul-same Inv-loop μ-loop
-mul-same c = search needs
+place-row-requires : tie.Need-place-row-requires Inv-loop μ-loop
+place-row-requires c κs = c .before .before .before .before .before .pre .each _ (omega arith)
 
-index-1-same : tie.Need-index-1-same Inv-loop μ-loop
-index-1-same c = search needs
+array-read-same : tie.Need-array-read-same Inv-loop μ-loop
+array-read-same c = search needs
 
-index-2-same : tie.Need-index-2-same Inv-loop μ-loop
-index-2-same c = search needs
-
-mul-both : tie.Need-mul-both Inv-loop μ-loop
-mul-both c = search needs
-
-index-1-both : tie.Need-index-1-both Inv-loop μ-loop
-index-1-both c = search needs
-
-index-2-both : tie.Need-index-2-both Inv-loop μ-loop
-index-2-both c = search needs
+array-read-both : tie.Need-array-read-both Inv-loop μ-loop
+array-read-both c = search needs
 
 both-requires : tie.Need-both-requires Inv-loop μ-loop
 both-requires c κs = search needs
 
 returns : tie.Need-returns Inv-loop μ-loop
 returns c =
-    let l = c .before .before .before .before .before .loop in
-    let a = c .before .before .before .before .before .before .args in
-    sym (some-at (slanted (now (a .rows)) (a .percent)) (a .count) (l .i) (omega arith) (sym (c .before .both .ensures) ∙ c .if1 .taken))
+    let loop = c .before .before .before .before in
+    let asked = loop .before in
+    let a = asked .before .before .before .args in
+    let asks = sym (asked .before .asks-slant .ensures) ∙ asked .if1 .taken in
+    let here : slanted (now (a .rows)) (now (a .members)) (a .percent) (loop .loop .i) ≡ true = sym (rw (c .before .before .place-row .ensures) at (c .before .both .ensures)) ∙ c .if2 .taken in
+    sym (λ k. asks k && some-at (slanted (now (a .rows)) (now (a .members)) (a .percent)) (a .count) (loop .loop .i) (omega arith) here k)
 
 add-i : tie.Need-add-i Inv-loop μ-loop
 add-i c = search needs
@@ -62,12 +58,26 @@ loop-less c = search needs
 
 loop-again : tie.Need-loop-again Inv-loop μ-loop
 loop-again c =
-    let l = c .before .before .before .before .before .loop in
-    let a = c .before .before .before .before .before .before .args in
-    (omega arith, some-more (slanted (now (a .rows)) (a .percent)) (l .i) (l .inv .1) (sym (c .before .both .ensures) ∙ c .if1 .left))
+    let loop = c .before .before .before .before in
+    let a = loop .before .before .before .before .args in
+    let here : slanted (now (a .rows)) (now (a .members)) (a .percent) (loop .loop .i) ≡ false = sym (rw (c .before .before .place-row .ensures) at (c .before .both .ensures)) ∙ c .if2 .left in
+    (omega arith, some-more (slanted (now (a .rows)) (now (a .members)) (a .percent)) (loop .loop .i) (loop .loop .inv .1) here)
 
 returns-2 : tie.Need-returns-2 Inv-loop μ-loop
-returns-2 c = sym (c .before .loop .inv .1) ∙ ap (some (slanted (now (c .before .before .args .rows)) (c .before .before .args .percent))) (omega arith)
+returns-2 c =
+    let loop = c .before in
+    let asked = loop .before in
+    let a = asked .before .before .before .args in
+    let asks = sym (asked .before .asks-slant .ensures) ∙ asked .if1 .taken in
+    let none : some (slanted (now (a .rows)) (now (a .members)) (a .percent)) (a .count) ≡ false =
+    ap (some (slanted (now (a .rows)) (now (a .members)) (a .percent))) (omega arith) ∙ loop .loop .inv .1 in
+    sym (λ k. asks k && none k)
+
+returns-3 : tie.Need-returns-3 Inv-loop μ-loop
+returns-3 c =
+    let a = c .before .before .before .args in
+    let slants-there = some (slanted (now (a .rows)) (now (a .members)) (a .percent)) (a .count) in
+    sym (ap (λ (b : Bool). b && slants-there) (sym (c .before .asks-slant .ensures) ∙ c .if1 .left))
 
 pub slant-at-spec : {M : Type 1} → statement M
 slant-at-spec =
@@ -75,16 +85,15 @@ slant-at-spec =
     (tie.spec
     Inv-loop
     μ-loop
+    asks-slant-requires
     loop-holds
-    mul-same
-    index-1-same
-    index-2-same
-    mul-both
-    index-1-both
-    index-2-both
+    place-row-requires
+    array-read-same
+    array-read-both
     both-requires
     returns
     add-i
     loop-less
     loop-again
-    returns-2)
+    returns-2
+    returns-3)

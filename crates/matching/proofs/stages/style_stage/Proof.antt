@@ -1,4 +1,4 @@
--- The invariant: `best` is the least rank of the places passed, and their styles are of 32 bits. A turn is `scan-more` of proofs/Scans.antt.
+-- The invariant: `best` is the least rank of the places passed, and their numbers are of 32 bits. A turn is `scan-more` of proofs/Scans.antt.
 use Prim.Native.Nat.{_-_, _≤_}
 use native.Mathlib.Omega.{arith}
 use Rattle.matching.specs.Order.{Face}
@@ -10,31 +10,23 @@ use Rattle.matching.proofs.stages.style_stage.Statement.{statement}
 use Rattle.matching.proofs.stages.style_stage.Tie as tie
 
 abbrev Inv-loop : tie.InvT-loop
-Inv-loop rows count percent slant request best₀ i₀ best i = (i ≤ count) × Scanned (familyOfRows rows i) (styleRank request percent slant) (λ (f : Face). f .style) best
+Inv-loop rows members count percent slant request best₀ i₀ best i =
+    (i ≤ count) × Scanned (familyOfRows rows members i) (styleRank request percent slant) (λ (f : Face). f .style) best
 
 abbrev μ-loop : tie.MeasureT-loop
-μ-loop rows count percent slant request best₀ i₀ best i = count - i
+μ-loop rows members count percent slant request best₀ i₀ best i = count - i
 
 loop-holds : tie.Need-loop-holds Inv-loop μ-loop
 loop-holds c = (omega arith, scan-none)
 
-mul-width : tie.Need-mul-width Inv-loop μ-loop
-mul-width c = search needs
+place-row-requires : tie.Need-place-row-requires Inv-loop μ-loop
+place-row-requires c κs = c .before .before .before .pre .each _ (omega arith)
 
-index-1-width : tie.Need-index-1-width Inv-loop μ-loop
-index-1-width c = search needs
+array-read-width : tie.Need-array-read-width Inv-loop μ-loop
+array-read-width c = search needs
 
-index-2-width : tie.Need-index-2-width Inv-loop μ-loop
-index-2-width c = search needs
-
-mul-style-rank : tie.Need-mul-style-rank Inv-loop μ-loop
-mul-style-rank c = search needs
-
-index-1-style-rank : tie.Need-index-1-style-rank Inv-loop μ-loop
-index-1-style-rank c = search needs
-
-index-2-style-rank : tie.Need-index-2-style-rank Inv-loop μ-loop
-index-2-style-rank c = search needs
+array-read-style-rank : tie.Need-array-read-style-rank Inv-loop μ-loop
+array-read-style-rank c = search needs
 
 style-rank-requires : tie.Need-style-rank-requires Inv-loop μ-loop
 style-rank-requires c κs = search needs
@@ -49,7 +41,8 @@ loop-less : tie.Need-loop-less Inv-loop μ-loop
 loop-less c = search needs
 
 loop-again : tie.Need-loop-again Inv-loop μ-loop
-loop-again c = (omega arith, scan-more (c .before .before .before .before .before .loop .inv .1) (c .before .style-rank .ensures) (c .lower .ensures))
+loop-again c =
+    (omega arith, scan-more (c .before .before .before .before .loop .inv .1) (rw (c .before .before .place-row .ensures) at (c .before .style-rank .ensures)) (c .lower .ensures))
 
 returns : tie.Need-returns Inv-loop μ-loop
 returns c = scan-all (c .before .loop .inv .1) (omega arith)
@@ -61,12 +54,9 @@ style-stage-spec =
     Inv-loop
     μ-loop
     loop-holds
-    mul-width
-    index-1-width
-    index-2-width
-    mul-style-rank
-    index-1-style-rank
-    index-2-style-rank
+    place-row-requires
+    array-read-width
+    array-read-style-rank
     style-rank-requires
     lower-requires
     add-i

@@ -1,4 +1,4 @@
--- The invariant: `best` is the least rank of the places passed, and their percents are of 32 bits. A turn is `scan-more` of proofs/Scans.antt.
+-- The invariant: `best` is the least rank of the places passed, and their numbers are of 32 bits. A turn is `scan-more` of proofs/Scans.antt.
 use Prim.Native.Nat.{_-_, _≤_}
 use native.Mathlib.Omega.{arith}
 use Rattle.matching.specs.Order.{Face}
@@ -10,22 +10,20 @@ use Rattle.matching.proofs.stages.width_stage.Statement.{statement}
 use Rattle.matching.proofs.stages.width_stage.Tie as tie
 
 abbrev Inv-loop : tie.InvT-loop
-Inv-loop rows count request best₀ i₀ best i = (i ≤ count) × Scanned (familyOfRows rows i) (widthRank request) (λ (f : Face). f .percent) best
+Inv-loop rows members count request best₀ i₀ best i =
+    (i ≤ count) × Scanned (familyOfRows rows members i) (widthRank request) (λ (f : Face). f .percent) best
 
 abbrev μ-loop : tie.MeasureT-loop
-μ-loop rows count request best₀ i₀ best i = count - i
+μ-loop rows members count request best₀ i₀ best i = count - i
 
 loop-holds : tie.Need-loop-holds Inv-loop μ-loop
 loop-holds c = (omega arith, scan-none)
 
-mul-width-rank : tie.Need-mul-width-rank Inv-loop μ-loop
-mul-width-rank c = search needs
+place-row-requires : tie.Need-place-row-requires Inv-loop μ-loop
+place-row-requires c κs = c .before .before .before .pre .each _ (omega arith)
 
-index-1-width-rank : tie.Need-index-1-width-rank Inv-loop μ-loop
-index-1-width-rank c = search needs
-
-index-2-width-rank : tie.Need-index-2-width-rank Inv-loop μ-loop
-index-2-width-rank c = search needs
+array-read-width-rank : tie.Need-array-read-width-rank Inv-loop μ-loop
+array-read-width-rank c = search needs
 
 width-rank-requires : tie.Need-width-rank-requires Inv-loop μ-loop
 width-rank-requires c κs = search needs
@@ -40,7 +38,8 @@ loop-less : tie.Need-loop-less Inv-loop μ-loop
 loop-less c = search needs
 
 loop-again : tie.Need-loop-again Inv-loop μ-loop
-loop-again c = (omega arith, scan-more (c .before .before .before .before .loop .inv .1) (c .before .width-rank .ensures) (c .lower .ensures))
+loop-again c =
+    (omega arith, scan-more (c .before .before .before .before .loop .inv .1) (rw (c .before .before .place-row .ensures) at (c .before .width-rank .ensures)) (c .lower .ensures))
 
 returns : tie.Need-returns Inv-loop μ-loop
 returns c = scan-all (c .before .loop .inv .1) (omega arith)
@@ -52,9 +51,8 @@ width-stage-spec =
     Inv-loop
     μ-loop
     loop-holds
-    mul-width-rank
-    index-1-width-rank
-    index-2-width-rank
+    place-row-requires
+    array-read-width-rank
     width-rank-requires
     lower-requires
     add-i
