@@ -1,6 +1,6 @@
 -- What the reader of a family or of a request reads is what lies at its position.
 use Prim.Native.Nat.{ℕ, zero, suc, _+_, _*_, _≤_, _<_}
-use mathlib.Core.Path.{_≡_, sym, ap, _∙_}
+use mathlib.Core.Path.{_≡_, refl, sym, ap, _∙_}
 use mathlib.Core.List.{List, [], _∷_}
 use native.Mathlib.Omega.{arith}
 use lib.ListN.{length, getD}
@@ -36,9 +36,19 @@ many-each {A} P r s each (suc n) p xs q e i d l =
     front x ys h t zero m = h
     front x ys h t (suc k) m = t k (omega arith)
 
-pub family-in : (faces : ℕ) (s : List ℕ) (p : ℕ) (m : Family) (q : ℕ) → readFamily faces s p ≡ got m q → FamilyIn s p faces (m .members)
+-- entries that each end in the job end there together
+many-inside : {A : Type 0} (r : Reader A) (s : List ℕ) → ((p : ℕ) (a : A) (q : ℕ) → r s p ≡ got a q → q ≤ length s)
+    → (n p : ℕ) (xs : List A) (q : ℕ) → p ≤ length s → many n r s p ≡ got xs q → q ≤ length s
+unfolding many done
+many-inside r s each zero p xs q l e = omega (arith, same-got e .1)
+many-inside r s each (suc n) p xs q l e =
+    let a = then-got r _ s p xs q e in
+    let b = then-got (many n r) _ s (a .1) xs q (a .3) in
+    omega (arith, many-inside r s each n (a .1) (b .0) (b .1) (each p (a .0) (a .1) (a .2)) (b .2), same-got (b .3) .1)
+
+pub family-in : (faces : ℕ) (s : List ℕ) (p : ℕ) (m : Family) (q : ℕ) → length s ≤ mostBytes → readFamily faces s p ≡ got m q → FamilyIn s p faces (m .members)
 unfolding readFamily counted done
-family-in faces s p m q e =
+family-in faces s p m q short e =
     let a = then-got (counted mostPlaces (faceNumber faces)) _ s p m q e in
     let is : m ≡ record { members = a .0 } = same-got (a .3) .0 in
     let first = then-got (count mostPlaces) _ s p (a .0) (a .1) (a .2) in
@@ -46,8 +56,13 @@ family-in faces s p m q e =
     let long = counted-length mostPlaces (faceNumber faces) s p (a .0) (a .1) (a .2) in
     let numbers = then-at (count mostPlaces) _ (p + 2) (λ n u h. field-at (count-read mostPlaces s p n u h)) (omega arith) (a .2) in
     let each = many-even 2 (u16At s) (faceNumber faces) s (λ t n u h. field-at (face-number-read faces s t n u h)) (u16At s p) (p + 2) (a .0) (a .1) numbers .0 in
+    let ends = many-even 2 (u16At s) (faceNumber faces) s (λ t n u h. field-at (face-number-read faces s t n u h)) (u16At s p) (p + 2) (a .0) (a .1) numbers .1 in
+    let inside =
+    many-inside (faceNumber faces) s (λ t n u h. (let r = face-number-read faces s t n u h in omega (arith, r .next, r .inside))) (u16At s p) (p + 2) (a .0) (a .1) (number .inside) numbers in
     rw is
     (record {
+      low = omega (arith, number .inside);
+      whole = λ h. omega (arith, long, ends, inside);
       count = sym long;
       few = omega (arith, number .value, leb-true (first .0) mostPlaces (number .passed));
       member = λ i l. sym (ap (λ (xs : List ℕ). getD xs i 0) each ∙ element (λ k. u16At s (p + 2 + 2 * k)) (u16At s p) i 0 (omega arith));
@@ -60,6 +75,8 @@ pub unknown-family : (s : List ℕ) (faces : ℕ) → length s ≤ mostBytes →
 unfolding u16At
 unknown-family s faces l =
     record {
+      low = omega arith;
+      whole = λ h. absurd (h refl);
       count = simp (lt-leb (nowhere + 2) (length s) (omega arith));
       few = omega arith;
       member = λ i k. absurd (omega arith);

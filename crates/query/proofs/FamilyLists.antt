@@ -1,12 +1,11 @@
--- A family's offers as places and a count: a list that grows by a place, the part of it that has an n-th, what the default adds to it, and what the list depends on.
-use Prim.Native.Nat.{ℕ, _+_, _≤_, _<_}
+-- A family's offers: the held equal faces and what the default adds, how many they are, and what the list depends on.
+use Prim.Native.Nat.{ℕ, zero, suc, _+_, _≤_, _<_}
 use mathlib.Core.Path.{_≡_, refl, sym, _∙_, ap}
 use mathlib.Core.Bool.{Bool, true, false, not, _&&_, cond}
-use mathlib.Core.List.{List, [], _∷_, _++_, append-nil}
+use mathlib.Core.List.{List, [], _∷_, _++_}
 use native.Mathlib.Omega.{arith}
 use lib.Dec.{ltb}
-use lib.ListN.{length, getD, set, length-append, length-set, List·getD-append}
-use lib.Seq.{getD-at, getD-set-same, getD-set-other}
+use lib.ListN.{length, length-append}
 use borrow.Author.Tests.{le-ltb, ltb-true, ltb-false}
 use Rattle.matching.specs.declared.order.Request.{Request}
 use Rattle.matching.specs.Below.{placesBelow}
@@ -14,88 +13,14 @@ use Rattle.matching.specs.Order.{Family, sameFace, choice, equalPlaces}
 use Rattle.matching.specs.Matching.{defaultPlace}
 use Rattle.matching.specs.Rows.{familyOfRows}
 use Rattle.matching.proofs.Below.{both}
-use Rattle.matching.proofs.Listed.{placed, passed}
-use Rattle.matching.proofs.Ranks.{Tri, low, same, high, tri}
 use Rattle.matching.proofs.Alike.{places-agree, choice-same, equal-same, default-same}
-use Rattle.query.specs.declared.families.Listing.{Listing}
+use Rattle.query.specs.declared.families.FamilyOffer.{FamilyOffer}
+use Rattle.query.specs.declared.families.FamilyOffer.the-variants.{Place, Left}
 use Rattle.query.specs.Offers.{pick, keep, among, heldEqual, offersDefault, familyOffers}
 use Rattle.query.specs.CallTables.{heldRow}
-use Rattle.query.specs.Listed.{Lists, Reaches, defaultOffered}
-use Rattle.query.proofs.Picked.{pick-append, pick-in}
+use Rattle.query.specs.Listed.{defaultOffered, defaultOffers}
+use Rattle.query.proofs.Picked.{pick-then, pick-append}
 use Rattle.query.proofs.KeptPlaces.{equal-kept, none-kept, among-below}
-
--- ---- places and a count
-
-abbrev pub counted : List ℕ → ℕ → Listing
-counted places n = record { places = places; count = n }
-
-pub lists-none : (places : List ℕ) (most : ℕ) → length places ≡ 65 → Lists (counted places 0) most []
-lists-none places most e = record { long = e; count = refl; few = omega arith; places = λ i l. absurd (omega arith) }
-
-pub lists-wider : (places : List ℕ) (n less more : ℕ) (xs : List ℕ) → Lists (counted places n) less xs → less ≤ more → Lists (counted places n) more xs
-lists-wider places n less more xs h l =
-    record { long = h .long; count = h .count; few = omega (arith, h .few); places = h .places }
-
--- one place more, written where the list ended
-pub lists-more : (places : List ℕ) (n most : ℕ) (xs : List ℕ) (x : ℕ) → Lists (counted places n) most xs → most < 65
-    → Lists (counted (set places n x) (n + 1)) (most + 1) (xs ++ (x ∷ []))
-lists-more places n most xs x h l =
-    record {
-      long = length-set places n x ∙ h .long;
-      count = omega (arith, longer, h .count);
-      few = omega (arith, longer, h .few);
-      places = λ i m. go i m (tri i (length xs));
-    }
-  where
-    longer : length (xs ++ (x ∷ [])) ≡ length xs + 1
-    longer = length-append xs (x ∷ [])
-
-    room : n < length places
-    room = omega (arith, h .long, h .count, h .few)
-
-    go : (i : ℕ) → i < length (xs ++ (x ∷ [])) → Tri i (length xs) → getD (set places n x) i 0 ≡ getD (xs ++ (x ∷ [])) i 0
-    go i m (low k) =
-        getD-set-other places n i x 0 (omega (arith, h .count)) ∙ h .places i k ∙ sym (List·getD-append xs (x ∷ []) 0 i k)
-    go i m (same e) =
-        let here : i ≡ n = omega (arith, h .count) in
-        ap (λ (j : ℕ). getD (set places n x) j 0) here ∙ getD-set-same places n x 0 room ∙ sym (getD-at xs x [] 0 i (sym e))
-    go i m (high k) = absurd (omega (arith, longer))
-
--- a turn of a loop: the place is listed, or passed
-module _ (p : ℕ → Bool) (places : List ℕ) (found i : ℕ) (h : Lists (counted places found) i (placesBelow p i)) (places′ : List ℕ) (found′ : ℕ) where
-  abbrev Next : Type 0
-  Next = Lists (counted places′ found′) (i + 1) (placesBelow p (i + 1))
-
-  pub grown : p i ≡ true → i < 65 → places′ ≡ set places found i → found′ ≡ found + 1 → Next
-  grown e l a b = rw (placed p i e, a, b) (lists-more places found i (placesBelow p i) i h l)
-
-  pub kept : p i ≡ false → places′ ≡ places → found′ ≡ found → Next
-  kept e a b = rw (passed p i e, a, b) (lists-wider places found i (i + 1) (placesBelow p i) h (omega arith))
-
--- ---- as far as an n-th
-
-module _ {o : Listing} {n : ℕ} {xs : List ℕ} where
-  pub reaches-all : Lists o 65 xs → Reaches o n xs
-  reaches-all h = record { start = xs; rest = []; are = sym (append-nil xs); lists = h; whole = λ l. refl }
-
-  -- the first of two lists has an n-th
-  pub reaches-first : (start rest : List ℕ) → xs ≡ start ++ rest → Lists o 65 start → n < o .count → Reaches o n xs
-  reaches-first start rest e h l = record { start = start; rest = rest; are = e; lists = h; whole = λ m. absurd (omega (arith, h .count)) }
-
-  module _ (h : Reaches o n xs) where
-    pub reached : {B : Type 0} (found : ℕ → B) (past : ℕ → B) → n < o .count → found (getD (o .places) n 0) ≡ pick found past xs n
-    reached found past l =
-        let below : n < length (h .start) = omega (arith, h .lists .count) in
-        sym
-        (ap (λ (all : List ℕ). pick found past all n) (h .are)
-        ∙ pick-append found past (h .start) (h .rest) n
-        ∙ pick-in found (pick found past (h .rest)) (h .start) n 0 below
-        ∙ ap found (sym (h .lists .places n below)))
-
-    -- where there is no n-th the list is whole
-    pub not-reached : o .count ≤ n → Lists o 65 xs
-    not-reached l =
-        let none : h .rest ≡ [] = h .whole (omega (arith, h .lists .count)) in rw (h .are, none, append-nil) (h .lists)
 
 -- ---- the default
 
@@ -136,24 +61,70 @@ module _ (family : Family) (held : ℕ → Bool) (request : Request) where
   unfolding familyOffers heldEqual
   held-first = refl
 
-  pub with-default : offersDefault family held request ≡ true
-      → familyOffers family held request ≡ keep held (equalPlaces family (choice family request)) ++ (defaultPlace family ∷ [])
-  with-default e = rw (held-first, e) refl
+-- by the family's rows: what is behind the held faces that equal the chosen one
+pub default-offers : (rows : List (List ℕ)) (members : List ℕ) (count : ℕ) (request : Request)
+    → cond (offersDefault (familyOfRows rows members count) (heldRow rows members) request) (defaultPlace (familyOfRows rows members count) ∷ []) []
+    ≡ defaultOffers rows members count (choice (familyOfRows rows members count) request)
+unfolding defaultOffered defaultOffers
+default-offers rows members count request =
+    ap (λ (b : Bool). cond b (defaultPlace (familyOfRows rows members count) ∷ []) []) (default-is (familyOfRows rows members count) (heldRow rows members) request)
 
-  pub without-default : offersDefault family held request ≡ false
-      → familyOffers family held request ≡ keep held (equalPlaces family (choice family request))
-  without-default e = rw (held-first, e) (append-nil (keep held (equalPlaces family (choice family request))))
-
--- by the family's rows
-pub default-offered : (group : List (List ℕ)) (count : ℕ) (request : Request)
-    → offersDefault (familyOfRows group count) (heldRow group) request
-    ≡ defaultOffered group count (choice (familyOfRows group count) request) (defaultPlace (familyOfRows group count))
+pub offered-in : (rows : List (List ℕ)) (members : List ℕ) (count chosen d : ℕ) → defaultOffered rows members count chosen d ≡ true → d < count
 unfolding defaultOffered
-default-offered group count request = default-is (familyOfRows group count) (heldRow group) request
+offered-in rows members count chosen d e = ltb-true d count (both (ltb d count) _ e .0)
 
-pub offered-in : (group : List (List ℕ)) (count chosen d : ℕ) → defaultOffered group count chosen d ≡ true → d < count
-unfolding defaultOffered
-offered-in group count chosen d e = ltb-true d count (both (ltb d count) _ e .0)
+-- what follows the answer of the held equal faces, which are all the offers but these
+abbrev pub after-equal : List ℕ → FamilyOffer → FamilyOffer
+after-equal rest (Place p) = Place p
+after-equal rest (Left k) = pick Place Left rest k
+
+pub then-rest : (xs rest : List ℕ) (n : ℕ) → after-equal rest (pick Place Left xs n) ≡ pick Place Left (xs ++ rest) n
+then-rest xs rest n = pick-then (after-equal rest) Place Left xs n ∙ sym (pick-append Place Left xs rest n)
+
+-- how far past the offers a number lies tells how many there are
+abbrev pub Passed : List ℕ → ℕ → FamilyOffer → Type 0
+Passed xs n (Place p) = Unit {0}
+Passed xs n (Left k) = n ≡ length xs + k
+
+pub passed-by : (xs : List ℕ) (n : ℕ) → Passed xs n (pick Place Left xs n)
+unfolding pick
+passed-by [] n = omega arith
+passed-by (x ∷ xs) zero = tt
+passed-by (x ∷ xs) (suc n) = further xs n (pick Place Left xs n) (passed-by xs n)
+  where
+    further : (ys : List ℕ) (m : ℕ) (o : FamilyOffer) → Passed ys m o → Passed (x ∷ ys) (suc m) o
+    further ys m (Place p) h = tt
+    further ys m (Left k) h = omega arith
+
+-- ---- how many there are
+
+places-few : (p : ℕ → Bool) (n : ℕ) → length (placesBelow p n) ≤ n
+unfolding placesBelow
+places-few p zero = omega arith
+places-few p (suc n) = omega (arith, length-append (placesBelow p n) (cond (p n) (n ∷ []) []), places-few p n, last (p n))
+  where
+    last : (b : Bool) → length (cond b (n ∷ []) []) ≤ 1
+    last true = omega arith
+    last false = omega arith
+
+pub offers-few : (family : Family) (held : ℕ → Bool) (request : Request) → length (familyOffers family held request) ≤ family .count + 1
+unfolding familyOffers heldEqual
+offers-few family held request =
+    omega (arith, length-append (keep held (equalPlaces family c)) (cond (offersDefault family held request) (defaultPlace family ∷ []) []), equal (ltb c n) refl, last (offersDefault family held request))
+  where
+    n : ℕ
+    n = family .count
+
+    c : ℕ
+    c = choice family request
+
+    equal : (b : Bool) → ltb c n ≡ b → length (keep held (equalPlaces family c)) ≤ n
+    equal true e = rw (equal-kept family held c (ltb-true c n e)) (places-few (λ i. held i && sameFace (family .face i) (family .face c)) n)
+    equal false e = rw (none-kept family held c (ltb-false c n e)) (omega arith)
+
+    last : (b : Bool) → length (cond b (defaultPlace family ∷ []) []) ≤ 1
+    last true = omega arith
+    last false = omega arith
 
 -- ---- what a family's offers depend on: its count, and below it the faces and which are held
 

@@ -25,7 +25,7 @@ use Rattle.query.specs.Positions.{LiesAt, WalkAnswer}
 use Rattle.query.specs.Values.{faceAt}
 use Rattle.query.specs.View.{afterOverrides, entryOf, statedBy, viewOf}
 use Rattle.query.specs.Offers.{membersOf}
-use Rattle.query.specs.CallTables.{marks, attributesIn, axisIn, rowAt, rowsAfter, nowhere, FacesLie, EntryRow, RowsAt, RowsOverridden, RowIn, FamilyIn, Room, LoadAnswer}
+use Rattle.query.specs.CallTables.{marks, attributesIn, axisIn, rowAt, rowsAfter, beginOf, nowhere, FacesLie, EntryRow, RowsAt, RowsOverridden, RowIn, FamilyIn, Room, LoadAnswer}
 use Rattle.query.proofs.Ends.{then-got}
 use Rattle.query.proofs.Leaves.{count-read, counted-length}
 use Rattle.query.proofs.Checks.{accepted, job-read, sections-read}
@@ -186,9 +186,12 @@ module _ {s : List ℕ} {w : Walked} {before families : List ℕ} {asked : ℕ} 
             let lies = walks .begins z .family .lies k noFamily (omega arith) (omega arith) in
             let here : 0 + k ≡ k = omega arith in
             subst (λ (j : ℕ). FamilyIn s (getD families k 0) (length (jobOf s .faces)) (getD (jobOf s .families) j noFamily .members)) here
-            (family-in (length (jobOf s .faces)) s (getD families k 0) _ (lies .end) (lies .read))
+            (family-in (length (jobOf s .faces)) s (getD families k 0) _ (lies .end) (parts .short) (lies .read))
         family-there k l (same h) = past-families k l (omega arith)
         family-there k l (high h) = past-families k l (omega arith)
+
+        there : (k : ℕ) → k < mostFamilies → FamilyIn s (getD families k 0) (length (jobOf s .faces)) (membersOf (viewOf (jobOf s)) k)
+        there k l = rw (members-are k) (family-there k l (tri k (length (jobOf s .families))))
 
         pub loads : LoadAnswer s w after families asked
         loads =
@@ -199,9 +202,11 @@ module _ {s : List ℕ} {w : Walked} {before families : List ℕ} {asked : ℕ} 
                     accepted = job-accepted;
                     room = omega (arith, overridden .long, faces .long);
                     row = row-in;
-                    family = λ k l. rw (members-are k) (family-there k l (tri k (length (jobOf s .families))));
+                    long = places;
+                    family = λ k l. (let begins : beginOf (getD families k 0) ≡ getD families k 0 = omega (arith, there k l .low) in rw begins (there k l));
                     known = parts .known;
                   };
+              uncounted = λ y k l. there k l .low;
               overrides = λ y. walks .begins z .override;
               requests = λ y. walks .begins z .requests;
               request = λ d y l.
@@ -217,6 +222,7 @@ loads-nothing walks h =
     record {
       checked = walks .checked;
       loaded = λ y. absurd (h y);
+      uncounted = λ y. absurd (h y);
       overrides = λ y. absurd (h y);
       requests = λ y. absurd (h y);
       request = λ d y. absurd (h y);

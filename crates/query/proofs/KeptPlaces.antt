@@ -5,11 +5,13 @@ use mathlib.Core.Bool.{Bool, true, false, _&&_, _||_, cond}
 use mathlib.Core.List.{List, [], _∷_, _++_}
 use native.Mathlib.Omega.{arith}
 use lib.Dec.{ltb, eqb}
+use lib.ListN.{length}
 use borrow.Author.Tests.{lt-ltb, le-ltb, eq-eqb, ne-eqb}
 use Rattle.matching.specs.Below.{placesBelow}
 use Rattle.matching.specs.Order.{Family, sameFace, equalPlaces}
 use Rattle.matching.proofs.Ranks.{Tri, low, same, high, tri}
-use Rattle.query.specs.Offers.{keep, among}
+use Rattle.query.specs.Offers.{pick, keep, among}
+use Rattle.query.proofs.Picked.{pick-append, pick-past}
 
 -- ---- kept
 
@@ -34,6 +36,25 @@ keep-below h p (suc n) =
     one false true e = rw e refl
     one true false e = refl
     one false false e = refl
+
+-- ---- the n-th of places in order
+
+module _ {B : Type 0} (found : ℕ → B) (p : ℕ → Bool) (i n : ℕ) (here : p i ≡ true) (before : n ≡ length (placesBelow p i)) where
+  pub nth-place : (past : ℕ → B) (m : ℕ) → i < m → pick found past (placesBelow p m) n ≡ found i
+  unfolding placesBelow pick
+  nth-place past zero l = absurd (omega arith)
+  nth-place past (suc m) l =
+      let after = pick found past (cond (p m) (m ∷ []) []) in
+      pick-append found past (placesBelow p m) (cond (p m) (m ∷ []) []) n ∙ go (λ k. nth-place after m k) (tri i m)
+    where
+      go : (i < m → pick found (pick found past (cond (p m) (m ∷ []) [])) (placesBelow p m) n ≡ found i) → Tri i m
+          → pick found (pick found past (cond (p m) (m ∷ []) [])) (placesBelow p m) n ≡ found i
+      go earlier (low k) = earlier k
+      go earlier (same e) =
+          pick-past found (pick found past (cond (p m) (m ∷ []) [])) (placesBelow p m) n 0 (before ∙ ap (λ (k : ℕ). length (placesBelow p k)) e ∙ omega arith)
+          ∙ ap (λ (k : ℕ). pick found past (cond (p k) (k ∷ []) []) 0) (sym e)
+          ∙ ap (λ (b : Bool). pick found past (cond b (i ∷ []) []) 0) here
+      go earlier (high k) = absurd (omega arith)
 
 -- ---- among
 

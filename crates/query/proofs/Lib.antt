@@ -38,6 +38,7 @@ pub mod FamiliesAt
 pub mod JobTables
 -- The offers of a family and of a request.
 pub mod KeptPlaces
+pub mod Members
 pub mod FamilyLists
 pub mod RowFamilies
 pub mod Turns

@@ -15,7 +15,7 @@ use Rattle.query.specs.Job.{jobOf}
 use Rattle.query.specs.View.{View, afterOverrides, statedBy, viewOf}
 use Rattle.query.specs.Offers.{membersOf, faceOfOffer}
 use Rattle.query.specs.Values.{faceAt}
-use Rattle.query.specs.CallTables.{FontTaken, marks, OfferedFace, TablesOf, RowIn, FamilyIn}
+use Rattle.query.specs.CallTables.{FontTaken, marks, beginOf, OfferedFace, TablesOf, RowIn, FamilyIn}
 use Rattle.query.specs.Listed.{SectionIn, Names}
 
 -- where the entry of a face begins, from the marks of its row
@@ -37,10 +37,10 @@ module _ {s : List ℕ} {rows : List (List ℕ)} {families : List ℕ} (loaded :
   unfolding viewOf
   family-few = omega (arith, there .family, loaded .known, length-map (jobOf s .families) (λ (m : Family). m .members))
 
-  here : FamilyIn s (getD families (o .family) 0) (length (jobOf s .faces)) (membersOf view (o .family))
+  here : FamilyIn s (beginOf (getD families (o .family) 0)) (length (jobOf s .faces)) (membersOf view (o .family))
   here = loaded .family (o .family) family-few
 
-  module _ {at i : ℕ} (begins : at ≡ getD families (o .family) 0) (is : i ≡ u16At s (at + 2 + 2 * o .place)) where
+  module _ {at i : ℕ} (begins : at ≡ beginOf (getD families (o .family) 0)) (is : i ≡ u16At s (at + 2 + 2 * o .place)) where
     number-is : i ≡ number
     number-is = is ∙ ap (λ (p : ℕ). u16At s (p + 2 + 2 * o .place)) begins ∙ here .member (o .place) (there .place)
 

@@ -5,25 +5,25 @@ use mathlib.Core.Bool.{Bool, true, false, cond}
 use mathlib.Core.List.{List, [], _∷_, map}
 use native.Mathlib.Omega.{arith}
 use lib.Dec.{ltb, eqb}
-use lib.ListN.{length, getD, set, replicate, length-map, length-set, getD-replicate, List·getD-eq-default}
+use lib.ListN.{length, getD, set, length-map, length-set, List·getD-eq-default}
 use lib.Seq.{getD-set-same, getD-set-other}
 use borrow.Author.Tests.{lt-ltb, le-ltb, eq-eqb, ne-eqb, ltb-false}
 use Rattle.font.specs.Tables.{u16At}
 use Rattle.font.specs.declared.attributes.Attributes.{Attributes}
 use Rattle.matching.specs.declared.order.Request.{Request}
 use Rattle.matching.specs.Matching.{faceOf, familyOf, hasAxis, slnt, noFace}
-use Rattle.matching.specs.Rows.{faceOfRow, familyOfRows, rowOf}
+use Rattle.matching.specs.Rows.{faceOfRow, placeRow, familyOfRows, rowOf}
 use Rattle.matching.proofs.Gathered.{row-face}
 use Rattle.matching.proofs.Ranks.{Tri, low, same, high, tri}
-use Rattle.query.specs.declared.families.Listing.{Listing}
 use Rattle.query.specs.Sizes.{mostFamilies}
 use Rattle.query.specs.Entries.{Family}
 use Rattle.query.specs.Job.{jobOf}
 use Rattle.query.specs.View.{View, viewOf}
 use Rattle.query.specs.Offers.{familyOffers, membersOf, facesOf, heldIn, numberOffers}
-use Rattle.query.specs.CallTables.{marks, isHeld, heldRow, RowIn, FamilyIn, TablesOf}
-use Rattle.query.specs.Listed.{MembersKnown, Gathers, Reaches, OffersAt, Counted}
-use Rattle.query.proofs.FamilyLists.{offers-same, none-offered}
+use Rattle.query.specs.CallTables.{marks, isHeld, heldRow, beginOf, knownOf, Uncounted, RowIn, FamilyIn, TablesOf}
+use Rattle.query.specs.Listed.{MembersKnown, membersAt, offersAt, Counted}
+use Rattle.query.proofs.Members.{number-of}
+use Rattle.query.proofs.FamilyLists.{offers-few, offers-same, none-offered}
 
 -- ---- the marks of a row
 
@@ -81,7 +81,7 @@ module _ {s : List ℕ} {rows : List (List ℕ)} {families : List ℕ} (loaded :
 
   module _ (f : ℕ) (below : f < mostFamilies) where
     abbrev at : ℕ
-    at = getD families f 0
+    at = beginOf (getD families f 0)
 
     abbrev members : List ℕ
     members = membersOf view f
@@ -93,75 +93,92 @@ module _ {s : List ℕ} {rows : List (List ℕ)} {families : List ℕ} (loaded :
     members-known =
         record {
           few = omega (arith, lies .count, lies .few);
+          whole = λ h. omega (arith, lies .count, lies .whole (λ e. h (lies .count ∙ e)));
           known = λ i l. (let m : i < length members = omega (arith, lies .count) in omega (arith, lies .member i m, lies .known i m, loaded .room));
         }
 
-    module _ (group : List (List ℕ)) (gathered : Gathers s at rows (u16At s at) group) where
-      row-at : (i : ℕ) → i < length members → RowIn s view (getD members i 0) (getD group i [])
-      row-at i l = rw (gathered .each i (omega (arith, lies .count)), lies .member i l) (loaded .row (getD members i 0) (lies .known i l))
+    -- the row of a place is that of the family's face there
+    row-at : (i : ℕ) → i < length members → RowIn s view (getD members i 0) (placeRow rows (membersAt s at) i)
+    unfolding placeRow
+    row-at i l =
+        rw (number-of s at (members-known .whole (λ e. omega (arith, lies .count))) i (omega (arith, lies .count)), lies .member i l)
+        (loaded .row (getD members i 0) (lies .known i l))
 
-      face-at : (i : ℕ) → i < length members → faceOfRow (getD group i []) ≡ faceOf (view .font (getD members i 0))
-      face-at i l =
-          let r = row-at i l in
-          let font = view .font (getD members i 0) in
-          let held = view .held (getD members i 0) in
-          ap faceOfRow (r .is) ∙ row-face font (marks (r .entry) held (hasAxis font slnt)) (slant-marked (r .entry) held (hasAxis font slnt))
+    face-at : (i : ℕ) → i < length members → faceOfRow (placeRow rows (membersAt s at) i) ≡ faceOf (view .font (getD members i 0))
+    face-at i l =
+        let r = row-at i l in
+        let font = view .font (getD members i 0) in
+        let held = view .held (getD members i 0) in
+        ap faceOfRow (r .is) ∙ row-face font (marks (r .entry) held (hasAxis font slnt)) (slant-marked (r .entry) held (hasAxis font slnt))
 
-      held-at : (i : ℕ) → i < length members → heldRow group i ≡ heldIn view f i
-      unfolding heldRow heldIn
-      held-at i l =
-          let r = row-at i l in
-          let font = view .font (getD members i 0) in
-          ap isHeld (r .is) ∙ held-marked (font .attributes) (r .entry) (view .held (getD members i 0)) (hasAxis font slnt)
+    held-at : (i : ℕ) → i < length members → heldRow rows (membersAt s at) i ≡ heldIn view f i
+    unfolding heldRow heldIn
+    held-at i l =
+        let r = row-at i l in
+        let font = view .font (getD members i 0) in
+        ap isHeld (r .is) ∙ held-marked (font .attributes) (r .entry) (view .held (getD members i 0)) (hasAxis font slnt)
 
-      pub number-by-rows : (request : Request)
-          → familyOffers (familyOfRows group (u16At s at)) (heldRow group) request ≡ numberOffers view request f
-      unfolding familyOf facesOf
-      number-by-rows request =
-          offers-same (familyOfRows group (u16At s at)) (familyOf (facesOf view f) (length (facesOf view f))) (heldRow group) (heldIn view f)
-          (lies .count ∙ sym many)
-          (λ i l.
-          let m : i < length members = omega (arith, lies .count) in
-          face-at i m
-          ∙ sym (rw (lt-ltb i (length (facesOf view f)) (omega (arith, many))) (ap faceOf (map-at (view .font) members i 0 noFace m))))
-          (λ i l. held-at i (omega (arith, lies .count)))
-          request
-          ∙ sym (number-offers view request f)
-        where
-          many : length (facesOf view f) ≡ length members
-          many = length-map members (view .font)
+    pub number-by-rows : (request : Request) → offersAt s at rows request ≡ numberOffers view request f
+    unfolding familyOf facesOf offersAt
+    number-by-rows request =
+        offers-same (familyOfRows rows (membersAt s at) (u16At s at)) (familyOf (facesOf view f) (length (facesOf view f))) (heldRow rows (membersAt s at)) (heldIn view f)
+        (lies .count ∙ sym many)
+        (λ i l.
+        let m : i < length members = omega (arith, lies .count) in
+        face-at i m
+        ∙ sym (rw (lt-ltb i (length (facesOf view f)) (omega (arith, many))) (ap faceOf (map-at (view .font) members i 0 noFace m))))
+        (λ i l. held-at i (omega (arith, lies .count)))
+        request
+        ∙ sym (number-offers view request f)
+      where
+        many : length (facesOf view f) ≡ length members
+        many = length-map members (view .font)
 
-    pub number-reaches : {request : Request} {n : ℕ} {o : Listing} → OffersAt s at rows request n o → Reaches o n (numberOffers view request f)
-    number-reaches {request} h = rw (number-by-rows (h .group) (h .gathered) request) at (h .reaches)
+    pub number-few : (request : Request) → length (numberOffers view request f) ≤ 65
+    unfolding offersAt
+    number-few request =
+        rw (← number-by-rows request)
+        (let m = offers-few (familyOfRows rows (membersAt s at) (u16At s at)) (heldRow rows (membersAt s at)) request in omega (arith, m, members-known .few))
 
--- ---- the counts that are known
+    -- ---- a count that is noted
 
-module _ (s : List ℕ) (request : Request) where
-  pub none-counted : Counted s request (replicate mostFamilies 0)
-  none-counted =
-      record {
-        long = refl;
-        few = λ f l. omega (arith, getD-replicate {A = ℕ} mostFamilies f 0 0 l);
-        right = λ f l n. absurd (n (getD-replicate {A = ℕ} mostFamilies f 0 0 l));
-      }
-
-  pub one-counted : (counts : List ℕ) (f v : ℕ) → Counted s request counts → f < mostFamilies → v ≤ 66
-      → v ≡ suc (length (numberOffers (viewOf (jobOf s)) request f)) → Counted s request (set counts f v)
-  one-counted counts f v h l m e =
-      record { long = length-set counts f v ∙ h .long; few = λ g k. few g k (tri g f); right = λ g k. right g k (tri g f) }
-    where
-      after : ℕ → ℕ
-      after g = getD (set counts f v) g 0
+    module _ (request : Request) (counted : Counted s request families) (v : ℕ) (begins : beginOf v ≡ beginOf (getD families f 0)) (known : knownOf v ≡ suc (length (numberOffers view request f))) where
+      abbrev after : ℕ → ℕ
+      after g = getD (set families f v) g 0
 
       here : (g : ℕ) → g ≡ f → after g ≡ v
-      here g q = ap after q ∙ getD-set-same counts f v 0 (omega (arith, h .long))
+      here g q = ap after q ∙ getD-set-same families f v 0 (omega (arith, loaded .long))
 
-      few : (g : ℕ) → g < mostFamilies → Tri g f → after g ≤ 66
-      few g k (low q) = rw (getD-set-other counts f g v 0 (omega arith)) (h .few g k)
-      few g k (same q) = omega (arith, here g q)
-      few g k (high q) = rw (getD-set-other counts f g v 0 (omega arith)) (h .few g k)
+      other : (g : ℕ) → (g ≡ f → ⊥) → after g ≡ getD families g 0
+      other g h = getD-set-other families f g v 0 h
 
-      right : (g : ℕ) → g < mostFamilies → Tri g f → (after g ≡ 0 → ⊥) → after g ≡ suc (length (numberOffers (viewOf (jobOf s)) request g))
-      right g k (low q) = rw (getD-set-other counts f g v 0 (omega arith)) (h .right g k)
-      right g k (same q) = λ n. here g q ∙ e ∙ ap (λ (i : ℕ). suc (length (numberOffers (viewOf (jobOf s)) request i))) (sym q)
-      right g k (high q) = rw (getD-set-other counts f g v 0 (omega arith)) (h .right g k)
+      pub still-loaded : TablesOf s rows (set families f v)
+      still-loaded =
+          record {
+            accepted = loaded .accepted;
+            room = loaded .room;
+            row = loaded .row;
+            long = length-set families f v ∙ loaded .long;
+            family = λ g k. family g k (tri g f);
+            known = loaded .known;
+          }
+        where
+          same-begin : (g : ℕ) → Tri g f → beginOf (after g) ≡ beginOf (getD families g 0)
+          same-begin g (low q) = ap beginOf (other g (omega arith))
+          same-begin g (same q) = ap beginOf (here g q) ∙ begins ∙ ap (λ (i : ℕ). beginOf (getD families i 0)) (sym q)
+          same-begin g (high q) = ap beginOf (other g (omega arith))
+
+          family : (g : ℕ) → g < mostFamilies → Tri g f → FamilyIn s (beginOf (after g)) (length (jobOf s .faces)) (membersOf view g)
+          family g k t = rw (same-begin g t) (loaded .family g k)
+
+      pub one-counted : Counted s request (set families f v)
+      one-counted = record { right = λ g k. right g k (tri g f) }
+        where
+          right : (g : ℕ) → g < mostFamilies → Tri g f → (knownOf (after g) ≡ 0 → ⊥) → knownOf (after g) ≡ suc (length (numberOffers view request g))
+          right g k (low q) = rw (other g (omega arith)) (counted .right g k)
+          right g k (same q) = λ n. ap knownOf (here g q) ∙ known ∙ ap (λ (i : ℕ). suc (length (numberOffers view request i))) (sym q)
+          right g k (high q) = rw (other g (omega arith)) (counted .right g k)
+
+-- none is counted yet
+pub none-counted : (s : List ℕ) (request : Request) (families : List ℕ) → Uncounted families → Counted s request families
+none-counted s request families fresh = record { right = λ f l n. absurd (n (omega (arith, fresh f l))) }

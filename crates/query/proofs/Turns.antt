@@ -9,8 +9,8 @@ use borrow.Author.Tests.{lt-ltb, le-ltb}
 use Rattle.font.specs.Tables.{u16At}
 use Rattle.font.proofs.Tabulated as Tabulated
 use Rattle.matching.specs.declared.order.Request.{Request}
-use Rattle.query.specs.declared.offers.FamilyOffer.{FamilyOffer}
-use Rattle.query.specs.declared.offers.FamilyOffer.the-variants as Family'
+use Rattle.query.specs.declared.families.FamilyOffer.{FamilyOffer}
+use Rattle.query.specs.declared.families.FamilyOffer.the-variants as Family'
 use Rattle.query.specs.declared.offers.ListOffer.{ListOffer}
 use Rattle.query.specs.declared.offers.ListOffer.the-variants as List'
 use Rattle.query.specs.declared.offers.Offered.{Offered}

@@ -21,7 +21,7 @@ use Rattle.font.specs.declared.overrides.WidthOverride.the-variants as Width
 use Rattle.font.specs.declared.overrides.StyleOverride.the-variants as Style
 use Rattle.font.specs.declared.overrides.WeightOverride.the-variants as Weight
 use Rattle.matching.specs.Matching.{styleNumber, hasAxis, slnt}
-use Rattle.matching.specs.Rows.{rowOf}
+use Rattle.matching.specs.Rows.{placeRow, rowOf}
 use Rattle.query.specs.declared.job.Walked.{Walked}
 use Rattle.query.specs.Sizes.{mostBytes, mostOverrides, mostFamilies, mostPlaces}
 use Rattle.query.specs.Fields.{NumberedFont, counted}
@@ -46,8 +46,8 @@ unfoldable pub isHeld : List ℕ → Bool
 isHeld row = eqb (getD row 4 0 / 2 % 2) 1
 
 -- whether the face at a place of a family is held
-unfoldable pub heldRow : List (List ℕ) → ℕ → Bool
-heldRow rows i = isHeld (getD rows i [])
+unfoldable pub heldRow : List (List ℕ) → List ℕ → ℕ → Bool
+heldRow rows members i = isHeld (placeRow rows members i)
 
 -- the attributes and the axes that a file's font states
 unfoldable pub attributesIn : NumberedFont → Attributes
@@ -137,8 +137,24 @@ pub record RowIn (s : List ℕ) (view : View) (i : ℕ) (row : List ℕ) : Type 
   pub taken : FontTaken (faceAt s entry .font)
   pub inside : entry < length s
 
+-- a family's number in the table: where its entry begins and, once its offers are counted, `countStep` times one more than there are
+abbrev pub countStep : ℕ
+countStep = 2 ^ 25
+
+abbrev pub beginOf : ℕ → ℕ
+beginOf n = n % countStep
+
+abbrev pub knownOf : ℕ → ℕ
+knownOf n = n / countStep
+
+-- no family's offers are counted yet
+abbrev pub Uncounted : List ℕ → Type 0
+Uncounted families = (f : ℕ) → f < mostFamilies → getD families f 0 < countStep
+
 -- a family whose entry begins at a position: face numbers of a job of so many faces
 pub record FamilyIn (s : List ℕ) (p faces : ℕ) (members : List ℕ) : Type 0 where
+  pub low : p < countStep
+  pub whole : (length members ≡ 0 → ⊥) → p + 2 + 2 * length members ≤ length s
   pub count : u16At s p ≡ length members
   pub few : length members ≤ mostPlaces
   pub member : (i : ℕ) → i < length members → u16At s (p + 2 + 2 * i) ≡ getD members i 0
@@ -151,7 +167,7 @@ pub record RequestIn (s : List ℕ) (p : ℕ) (r : Request) : Type 0 where
 
 -- past the end of every job: where the families begin that a job does not have
 abbrev pub nowhere : ℕ
-nowhere = 2 ^ 32 - 1
+nowhere = countStep - 1
 
 -- the faces of the job, if it is accepted, all have a row
 abbrev pub Room : List ℕ → List (List ℕ) → Type 0
@@ -161,13 +177,15 @@ pub record TablesOf (s : List ℕ) (rows : List (List ℕ)) (families : List ℕ
   pub accepted : checkJob s .refusal ≡ 0
   pub room : Room s rows
   pub row : (i : ℕ) → i < length (jobOf s .faces) → RowIn s (viewOf (jobOf s)) i (getD rows i [])
-  pub family : (f : ℕ) → f < mostFamilies → FamilyIn s (getD families f 0) (length (jobOf s .faces)) (membersOf (viewOf (jobOf s)) f)
+  pub long : length families ≡ mostFamilies
+  pub family : (f : ℕ) → f < mostFamilies → FamilyIn s (beginOf (getD families f 0)) (length (jobOf s .faces)) (membersOf (viewOf (jobOf s)) f)
   pub known : length (jobOf s .families) ≤ mostFamilies
 
 -- the check call's answer; and of an accepted job what is loaded, its overrides, and the asked request
 pub record LoadAnswer (s : List ℕ) (w : Walked) (rows : List (List ℕ)) (families : List ℕ) (asked : ℕ) : Type 0 where
   pub checked : record { refusal = w .refusal; position = w .position } ≡ checkJob s
   pub loaded : w .refusal ≡ 0 → TablesOf s rows families
+  pub uncounted : w .refusal ≡ 0 → Uncounted families
   pub overrides : w .refusal ≡ 0 → LiesAt (counted mostOverrides (readOverride (length (jobOf s .faces)))) s (w .overrides) (jobOf s .overrides)
   pub requests : w .refusal ≡ 0 → w .requests ≡ length (jobOf s .requests)
   pub request : (d : Request) → w .refusal ≡ 0 → asked < length (jobOf s .requests) → RequestIn s (w .request) (getD (jobOf s .requests) asked d)

@@ -1,22 +1,22 @@
--- A family's offers as places and a count, and how an offer's number is found by subtracting counts. No promise to a user cites this.
+-- A family's offers by its rows, and what is known of how many there are. No promise to a user cites this.
 use Prim.Native.Nat.{ℕ, suc, _+_, _*_, _^_, _≤_, _<_}
 use mathlib.Core.Path.{_≡_}
-use mathlib.Core.Bool.{Bool, not, _&&_}
-use mathlib.Core.List.{List, [], _++_}
+use mathlib.Core.Bool.{Bool, not, _&&_, cond}
+use mathlib.Core.List.{List, [], _∷_}
 use lib.Dec.{ltb}
-use lib.ListN.{length, getD}
+use lib.ListN.{length, getD, take, drop}
 use Rattle.font.specs.Tables.{u16At}
 use Rattle.font.specs.declared.attributes.Attributes.{Attributes}
 use Rattle.font.specs.declared.font.FontInfo.{FontInfo}
 use Rattle.matching.specs.declared.order.Request.{Request}
 use Rattle.matching.specs.Order.{sameFace}
-use Rattle.matching.specs.Rows.{faceOfRow, familyOfRows}
+use Rattle.matching.specs.Matching.{defaultPlace}
+use Rattle.matching.specs.Rows.{faceOfRow, placeRow, familyOfRows}
 use Rattle.matching.specs.Synthesis.{synthesized, variesOf}
 use Rattle.query.specs.declared.answer.Offer.{Offer}
-use Rattle.query.specs.declared.families.Listing.{Listing}
 use Rattle.query.specs.declared.answer.Answer.{Answer}
 use Rattle.query.specs.declared.call.SearchResult.{SearchResult}
-use Rattle.query.specs.Sizes.{mostOverrides, mostFamilies, mostPlaces, mostOffers}
+use Rattle.query.specs.Sizes.{mostOverrides, mostFamilies, mostPlaces}
 use Rattle.query.specs.Fields.{counted}
 use Rattle.query.specs.Entries.{readOverride}
 use Rattle.query.specs.Positions.{LiesAt}
@@ -25,49 +25,36 @@ use Rattle.query.specs.Job.{jobOf}
 use Rattle.query.specs.View.{viewOf}
 use Rattle.query.specs.Values.{faceAt, requestAt}
 use Rattle.query.specs.Offers.{membersOf, familyOffers, numberOffers, offers, offersOf, faceOfOffer, offerAt}
-use Rattle.query.specs.CallTables.{heldRow, FontTaken, OfferedFace}
+use Rattle.query.specs.CallTables.{heldRow, knownOf, FontTaken, OfferedFace}
 
 -- a family of at most 64 faces, each with one of so many rows, as it lies at a position
 pub record MembersKnown (s : List ℕ) (p rows : ℕ) : Type 0 where
   pub few : u16At s p ≤ mostPlaces
+  pub whole : (u16At s p ≡ 0 → ⊥) → p + 2 + 2 * u16At s p ≤ length s
   pub known : (i : ℕ) → i < u16At s p → u16At s (p + 2 + 2 * i) < rows
 
--- its rows
-pub record Gathers (s : List ℕ) (p : ℕ) (rows : List (List ℕ)) (count : ℕ) (group : List (List ℕ)) : Type 0 where
-  pub all : count ≡ u16At s p
-  pub each : (i : ℕ) → i < count → getD group i [] ≡ getD rows (u16At s (p + 2 + 2 * i)) []
-
--- places and a count are a list of so many at most
-pub record Lists (o : Listing) (most : ℕ) (xs : List ℕ) : Type 0 where
-  pub long : length (o .places) ≡ mostOffers
-  pub count : o .count ≡ length xs
-  pub few : length xs ≤ most
-  pub places : (i : ℕ) → i < length xs → getD (o .places) i 0 ≡ getD xs i 0
-
--- places and a count are a list, or the part of it that comes first and has an n-th
-pub record Reaches (o : Listing) (n : ℕ) (xs : List ℕ) : Type 0 where
-  pub start : List ℕ
-  pub rest : List ℕ
-  pub are : xs ≡ start ++ rest
-  pub lists : Lists o mostOffers start
-  pub whole : length start ≤ n → rest ≡ []
+-- the bytes of its face numbers
+unfoldable pub membersAt : List ℕ → ℕ → List ℕ
+membersAt s p = take (2 * u16At s p) (drop (p + 2) s)
 
 -- the default is held, and it is no held face that equals the chosen one
-unfoldable pub defaultOffered : List (List ℕ) → ℕ → ℕ → ℕ → Bool
-defaultOffered group count chosen d =
-    ltb d count && (heldRow group d && not (ltb chosen count && sameFace (faceOfRow (getD group d [])) (faceOfRow (getD group chosen []))))
+unfoldable pub defaultOffered : List (List ℕ) → List ℕ → ℕ → ℕ → ℕ → Bool
+defaultOffered rows members count chosen d =
+    ltb d count
+    && (heldRow rows members d && not (ltb chosen count && sameFace (faceOfRow (placeRow rows members d)) (faceOfRow (placeRow rows members chosen))))
 
--- the offers of the family that lies at a position, as far as they are worked out for an n-th
-pub record OffersAt (s : List ℕ) (p : ℕ) (rows : List (List ℕ)) (request : Request) (n : ℕ) (o : Listing) : Type 0 where
-  pub group : List (List ℕ)
-  pub gathered : Gathers s p rows (u16At s p) group
-  pub reaches : Reaches o n (familyOffers (familyOfRows group (u16At s p)) (heldRow group) request)
+-- what is offered behind the held faces that equal the chosen one
+unfoldable pub defaultOffers : List (List ℕ) → List ℕ → ℕ → ℕ → List ℕ
+defaultOffers rows members count chosen =
+    cond (defaultOffered rows members count chosen (defaultPlace (familyOfRows rows members count))) (defaultPlace (familyOfRows rows members count) ∷ []) []
 
--- for each family of the job: 0, or one more than how many offers it has
-pub record Counted (s : List ℕ) (request : Request) (counts : List ℕ) : Type 0 where
-  pub long : length counts ≡ mostFamilies
-  pub few : (f : ℕ) → f < mostFamilies → getD counts f 0 ≤ suc mostOffers
-  pub right : (f : ℕ) → f < mostFamilies → (getD counts f 0 ≡ 0 → ⊥) → getD counts f 0 ≡ suc (length (numberOffers (viewOf (jobOf s)) request f))
+-- the offers of the family that lies at a position
+unfoldable pub offersAt : List ℕ → ℕ → List (List ℕ) → Request → List ℕ
+offersAt s p rows request = familyOffers (familyOfRows rows (membersAt s p) (u16At s p)) (heldRow rows (membersAt s p)) request
+
+-- where the offers of a family of the job are counted, the count is right
+pub record Counted (s : List ℕ) (request : Request) (families : List ℕ) : Type 0 where
+  pub right : (f : ℕ) → f < mostFamilies → (knownOf (getD families f 0) ≡ 0 → ⊥) → knownOf (getD families f 0) ≡ suc (length (numberOffers (viewOf (jobOf s)) request f))
 
 -- the offers of the request that lies at a position
 unfoldable pub listedAt : List ℕ → ℕ → Request → List Offer

@@ -22,10 +22,6 @@ mostFamilies = 64
 abbrev pub mostPlaces : ℕ
 mostPlaces = 64
 
--- the most offers of a family: its faces, and its default
-abbrev pub mostOffers : ℕ
-mostOffers = 65
-
 abbrev pub mostRequests : ℕ
 mostRequests = 256
 

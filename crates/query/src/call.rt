@@ -5,7 +5,7 @@ ghost use lib.ListN.{length};
 ghost use Rattle.font.specs.Tables.{u16At};
 ghost use Rattle.matching.specs.Synthesis.{synthesized, variesOf};
 ghost use Rattle.query.specs.Sizes.{fewFaces};
-ghost use Rattle.query.specs.CallTables.{Room, TablesOf};
+ghost use Rattle.query.specs.CallTables.{Room, TablesOf, Uncounted};
 ghost use Rattle.query.specs.Listed.{SectionIn, Names, answerAt, Readable, Locates, SearchAnswer, LeadsTo};
 ghost use Rattle.query.specs.Call.{withoutOffer, withSynthesis, answerCall, offerCall, Calls};
 ghost use Rattle.query.specs.Demands.{Demands};
@@ -109,7 +109,7 @@ fn place_of_face(
     ensures { λ r. ⌜ Locates (now (job .entry)) offer wanted r ⌝ }
 {
     let family = offer.family as usize;
-    let at = wide(families[family]);
+    let at = wide(families[family] % loading::COUNT_STEP);
     let number = tables::u16_at(job, at + 2 + 2 * (offer.place as usize)) as usize;
     let entry = wide(rows[number][MARKS] / 4);
     SearchResult {
@@ -127,16 +127,16 @@ fn search_request(
     job: &[u8],
     walked: Walked,
     rows: &[Row],
-    families: &[u32; 64],
+    families: &mut [u32; 64],
     n: usize,
 ) -> SearchResult
-    requires { ⌜ TablesOf (now job) (now rows) (now families) × SectionIn (now job) (walked .overrides) ⌝ }
+    requires { ⌜ TablesOf (now job) (now rows) (now families) × Uncounted (now families) × SectionIn (now job) (walked .overrides) ⌝ }
     requires { ⌜ walked .request < length (now job) ⌝ }
     ensures { λ r. ⌜ LeadsTo (now (job .entry)) (answerAt (now (job .entry)) (walked .request) n) r ⌝ }
 {
     let at = walked.request;
     let wanted = values::attributes_at(job, at + sizes::REQUEST_ATTRIBUTES);
-    match offers::request_offer(job, at, rows, families, request_of(wanted, true), n) {
+    match offers::request_offer(job, at, rows, &mut *families, request_of(wanted, true), n) {
         Offered::At(offer) => place_of_face(job, walked.overrides, rows, families, offer, wanted),
         Offered::Past => no_offer(1),
     }
@@ -153,12 +153,12 @@ fn search_with(job: &[u8], rows: &mut [Row], request: u32, number: u32) -> Searc
         return no_offer(walked.refusal as u32);
     }
     if (request as usize) < walked.requests {
-        return search_request(job, walked, rows, &families, number as usize);
+        return search_request(job, walked, rows, &mut families, number as usize);
     }
     no_offer(28)
 }
 
-// The answer of a search. Its rows are gone before the face is read.
+// The answer of a search. The face is read in a frame of its own, when those of the search are gone.
 fn answer_found(job: &[u8], found: SearchResult) -> Answer
     requires { ⌜ (found .result ≡ 0 → Readable (now job) found) ⌝ }
     ensures { λ r. ⌜ SearchAnswer (now (job .entry)) found r ⌝ }

@@ -29,8 +29,11 @@ use matching::rows::Row;
 use matching::rows::STYLE;
 use matching::rows::WEIGHT;
 
+// A family's number: where its entry begins and, once its offers are counted, this times one more than there are.
+pub(crate) const COUNT_STEP: u32 = 0x200_0000;
+
 // Past the end of every job: where the families begin that a job does not have.
-pub(crate) const NOWHERE: u32 = 0xFFFF_FFFF;
+pub(crate) const NOWHERE: u32 = COUNT_STEP - 1;
 
 fn bit_of(b: bool) -> u32
     ensures { λ r. ⌜ (r ≡ bitOf b) × (r ≤ 1) ⌝ }

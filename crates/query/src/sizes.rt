@@ -15,9 +15,6 @@ pub(crate) const MOST_FAMILIES: u16 = 64;
 
 pub(crate) const MOST_PLACES: u16 = 64;
 
-// The most offers of a family: its faces, and its default.
-pub(crate) const MOST_OFFERS: usize = 65;
-
 pub(crate) const MOST_REQUESTS: u16 = 256;
 
 // A face before its font file: held byte and length.

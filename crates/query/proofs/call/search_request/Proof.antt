@@ -17,16 +17,16 @@ request-of-requires : tie.Need-request-of-requires
 request-of-requires c κs = search needs
 
 request-offer-requires : tie.Need-request-offer-requires
-request-offer-requires c κs = let start = c .before .before .before in (omega (arith, start .pre .1, short-job _ (start .pre .0 .0 .accepted)), start .pre .0 .0)
+request-offer-requires c κs = let start = c .before .before .before .before in (omega (arith, start .pre .1, short-job _ (start .pre .0 .0 .accepted)), start .pre .0 .0, start .pre .0 .1)
 
 enum-known-offer : tie.Need-enum-known-offer
 enum-known-offer c = search needs
 
 place-of-face-requires : tie.Need-place-of-face-requires
 place-of-face-requires c κs =
-    let found = c .before .before .before in
-    let start = found .before .before .before .before in
-    (start .pre .0, found-names _ _ _ (found .before .before .attributes-at .ensures) (found .before .request-of .ensures) (found .request-offer .ensures) (c .before .offer .given .1))
+    let found = c .before .before .before .before in
+    let start = found .before .before .before .before .before in
+    ((found .request-offer .ensures .1, start .pre .0 .2), found-names _ _ _ (found .before .before .before .attributes-at .ensures) (found .before .request-of .ensures) (found .request-offer .ensures .0) (c .before .before .offer .given .1))
 
 enum-told : tie.Need-enum-told
 enum-told c = search needs
@@ -36,15 +36,15 @@ no-offer-requires c κs = search needs
 
 returns : tie.Need-returns
 returns c =
-    let offer = c .before .before in
+    let offer = c .before .before .before in
     let found = offer .before .before in
-    finds-offer _ _ _ (found .before .before .attributes-at .ensures) (found .before .request-of .ensures) (found .request-offer .ensures) (offer .offer .given .1) (c .place-of-face .ensures)
+    finds-offer _ _ _ (found .before .before .before .attributes-at .ensures) (found .before .request-of .ensures) (found .request-offer .ensures .0) (offer .offer .given .1) (c .place-of-face .ensures)
 
 returns-2 : tie.Need-returns-2
 returns-2 c =
     let found = c .before .before .before in
     finds-none (c .no-offer .ensures) (λ z. omega arith)
-    (past-list _ _ _ (found .before .before .attributes-at .ensures) (found .before .request-of .ensures) (found .request-offer .ensures) (c .before .enum-told .given .1))
+    (past-list _ _ _ (found .before .before .before .attributes-at .ensures) (found .before .request-of .ensures) (found .request-offer .ensures .0) (c .before .enum-told .given .1))
 
 pub search-request-spec : {M : Type 1} → statement M
 search-request-spec =

@@ -34,7 +34,7 @@ search-request-requires c κs =
     let ok = request .before .before in
     let loads = ok .before .before .before .load .ensures in
     let z = ok .if1 .left in
-    ((loads .loaded z, loads .overrides z), request-inside loads z (request .if2 .taken))
+    ((loads .loaded z, loads .uncounted z, loads .overrides z), request-inside loads z (request .if2 .taken))
 
 same-length-2 : tie.Need-same-length-2
 same-length-2 c = search needs

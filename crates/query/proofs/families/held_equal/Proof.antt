@@ -1,56 +1,76 @@
--- The invariant: the places passed that are held and equal the chosen one are listed.
-use Prim.Native.Nat.{ℕ, _-_, _≤_}
-use mathlib.Core.Path.{_≡_, refl, sym, _∙_}
+-- The invariant: of the number is left what the held equal places passed have not used up.
+use Prim.Native.Nat.{ℕ, _+_, _-_, _≤_}
+use mathlib.Core.Path.{_≡_, refl, sym, _∙_, ap}
 use mathlib.Core.Logic.{⊎-elim}
 use mathlib.Core.Bool.{Bool, true, false, _&&_}
-use mathlib.Core.List.{List, []}
+use mathlib.Core.List.{List}
 use native.Mathlib.Omega.{arith}
-use lib.ListN.{getD}
+use lib.ListN.{length}
 use denote.Ref.{now}
 use Rattle.matching.specs.Below.{placesBelow}
 use Rattle.matching.specs.Order.{sameFace}
-use Rattle.matching.specs.Rows.{faceOfRow, familyOfRows}
-use Rattle.query.specs.CallTables.{heldRow}
-use Rattle.query.specs.Listed.{Lists}
-use Rattle.query.proofs.KeptPlaces.{equal-kept, none-kept}
-use Rattle.query.proofs.FamilyLists.{counted, lists-none, lists-wider, grown, kept}
+use Rattle.matching.specs.Rows.{faceOfRow, placeRow, familyOfRows}
+use Rattle.matching.proofs.Listed.{placed, passed, longer}
+use Rattle.query.specs.declared.families.FamilyOffer.the-variants.{Place, Left}
+use Rattle.query.specs.Offers.{pick}
+use Rattle.query.specs.CallTables.{isHeld, heldRow}
+use Rattle.query.proofs.Picked.{pick-past}
+use Rattle.query.proofs.KeptPlaces.{equal-kept, none-kept, nth-place}
 use borrow.Author.Needs.{needs}
 use Rattle.query.proofs.families.held_equal.Statement.{statement}
 use Rattle.query.proofs.families.held_equal.Tie as tie
 
-abbrev equal : List (List ℕ) → ℕ → ℕ → Bool
-equal group chosen i = heldRow group i && sameFace (faceOfRow (getD group i [])) (faceOfRow (getD group chosen []))
+abbrev equal : List (List ℕ) → List ℕ → ℕ → ℕ → Bool
+equal rows members chosen i = heldRow rows members i && sameFace (faceOfRow (placeRow rows members i)) (faceOfRow (placeRow rows members chosen))
 
 abbrev Inv-loop : tie.InvT-loop
-Inv-loop group count chosen places₀ found₀ i₀ places found i =
-    (i ≤ count) × Lists (counted places found) i (placesBelow (equal group chosen) i)
+Inv-loop rows members count chosen n wanted left₀ i₀ left i = (i ≤ count) × (n ≡ left + length (placesBelow (equal rows members chosen) i))
 
 abbrev μ-loop : tie.MeasureT-loop
-μ-loop group count chosen places₀ found₀ i₀ places found i = count - i
+μ-loop rows members count chosen n wanted left₀ i₀ left i = count - i
 
 returns : tie.Need-returns Inv-loop μ-loop
+unfolding pick
 returns c =
-    let a = c .before .args in
-    rw (none-kept (familyOfRows (now (a .group)) (a .count)) (heldRow (now (a .group))) (a .chosen) (c .if1 .taken)) (lists-none _ _ refl)
+    let a = c .before .before .args in
+    rw (none-kept (familyOfRows (now (a .rows)) (now (a .members)) (a .count)) (heldRow (now (a .rows)) (now (a .members))) (a .chosen) (c .if1 .taken)) refl
+
+place-row-requires : tie.Need-place-row-requires Inv-loop μ-loop
+place-row-requires c κs = c .before .before .pre .each _ (omega arith)
 
 loop-holds : tie.Need-loop-holds Inv-loop μ-loop
 unfolding placesBelow
-loop-holds c = (omega arith, lists-none _ _ refl)
+loop-holds c = (omega arith, omega arith)
 
-held-at-requires : tie.Need-held-at-requires Inv-loop μ-loop
-held-at-requires c κs = search needs
+place-row-requires-2 : tie.Need-place-row-requires-2 Inv-loop μ-loop
+place-row-requires-2 c κs = c .before .before .before .before .before .pre .each _ (omega arith)
+
+is-held-requires : tie.Need-is-held-requires Inv-loop μ-loop
+is-held-requires c κs = search needs
 
 same-face-requires : tie.Need-same-face-requires Inv-loop μ-loop
 same-face-requires c κs = search needs
 
-cast-places : tie.Need-cast-places Inv-loop μ-loop
-cast-places c = search needs
+cast-t15 : tie.Need-cast-t15 Inv-loop μ-loop
+cast-t15 c = search needs
 
-array-write-places : tie.Need-array-write-places Inv-loop μ-loop
-array-write-places c = search needs
+returns-2 : tie.Need-returns-2 Inv-loop μ-loop
+unfolding heldRow
+returns-2 c =
+    let same = c .before .before in
+    let held = same .before .before in
+    let face = held .before in
+    let loop = face .before .before in
+    let a = loop .before .before .before .before .args in
+    let e : equal (now (a .rows)) (now (a .members)) (a .chosen) (loop .loop .i) ≡ true = λ k.
+    (sym (ap isHeld (face .place-row2 .ensures)) ∙ sym (held .is-held .ensures) ∙ same .before .if2 .taken) k
+    && ((λ j. sameFace (faceOfRow (sym (face .place-row2 .ensures) j)) (faceOfRow (sym (loop .before .place-row .ensures) j))) ∙ sym (same .same-face .ensures) ∙ c .before .if3 .taken) k in
+    sym
+    (rw (equal-kept (familyOfRows (now (a .rows)) (now (a .members)) (a .count)) (heldRow (now (a .rows)) (now (a .members))) (a .chosen) (loop .before .before .if1 .left))
+    (nth-place Place (equal (now (a .rows)) (now (a .members)) (a .chosen)) (loop .loop .i) (a .n) e (omega (arith, loop .loop .inv .1)) Left (a .count) (omega arith)))
 
-add-found : tie.Need-add-found Inv-loop μ-loop
-add-found c = search needs
+sub-left : tie.Need-sub-left Inv-loop μ-loop
+sub-left c = search needs
 
 add-i : tie.Need-add-i Inv-loop μ-loop
 add-i c = search needs
@@ -59,38 +79,40 @@ loop-less : tie.Need-loop-less Inv-loop μ-loop
 loop-less c = search needs
 
 loop-again : tie.Need-loop-again Inv-loop μ-loop
+unfolding heldRow
 loop-again c =
-    let l = c .before .before .before .loop in
-    let a = c .before .before .before .before .before .args in
-    let g = now (a .group) in
-    let p = equal g (a .chosen) in
-    let held : c .before .held-at .result ≡ heldRow g (l .i) = c .before .held-at .ensures in
-    let same = sameFace (faceOfRow (getD g (l .i) [])) (faceOfRow (getD g (a .chosen) [])) in
+    let face = c .before .before in
+    let loop = face .before .before in
+    let l = loop .loop in
+    let a = loop .before .before .before .before .args in
+    let p = equal (now (a .rows)) (now (a .members)) (a .chosen) in
+    let held : c .before .is-held .result ≡ heldRow (now (a .rows)) (now (a .members)) (l .i) = c .before .is-held .ensures ∙ ap isHeld (face .place-row2 .ensures) in
+    let same : sameFace (faceOfRow (face .place-row2 .result)) (faceOfRow (loop .before .place-row .result)) ≡ sameFace (faceOfRow (placeRow (now (a .rows)) (now (a .members)) (l .i))) (faceOfRow (placeRow (now (a .rows)) (now (a .members)) (a .chosen))) =
+    λ k. sameFace (faceOfRow (face .place-row2 .ensures k)) (faceOfRow (loop .before .place-row .ensures k)) in
     ⊎-elim
     (λ w.
-    let h : heldRow g (l .i) ≡ true = sym held ∙ w .0 .taken in
-    let e : same ≡ true = sym (w .1 .ensures) ∙ w .2 .taken in
-    let r = grown p (l .places) (l .found) (l .i) (l .inv .1) (c .if2 .places) (c .if2 .found) (λ k. h k && e k) (omega arith) (w .3) (w .4) in
-    (omega arith, r))
+    let h : heldRow (now (a .rows)) (now (a .members)) (l .i) ≡ true = sym held ∙ w .0 .taken in
+    let e = sym same ∙ sym (w .1 .ensures) ∙ w .2 .taken in
+    (omega arith, omega (arith, l .inv .1, w .3 .left, w .4, ap length (placed p (l .i) (λ k. h k && e k)), longer (placesBelow p (l .i)) (l .i))))
     (⊎-elim
     (λ w.
-    let h : heldRow g (l .i) ≡ true = sym held ∙ w .0 .taken in
-    let e : same ≡ false = sym (w .1 .ensures) ∙ w .2 .left in
-    let r = kept p (l .places) (l .found) (l .i) (l .inv .1) (c .if2 .places) (c .if2 .found) (λ k. h k && e k) (w .3) (w .4) in
-    (omega arith, r))
+    let h : heldRow (now (a .rows)) (now (a .members)) (l .i) ≡ true = sym held ∙ w .0 .taken in
+    let e = sym same ∙ sym (w .1 .ensures) ∙ w .2 .left in
+    (omega arith, omega (arith, l .inv .1, w .3, ap length (passed p (l .i) (λ k. h k && e k)))))
     (λ w.
-    let h : heldRow g (l .i) ≡ false = sym held ∙ w .0 .left in
-    let r = kept p (l .places) (l .found) (l .i) (l .inv .1) (c .if2 .places) (c .if2 .found) (λ k. h k && same) (w .1) (w .2) in
-    (omega arith, r)))
+    let h : heldRow (now (a .rows)) (now (a .members)) (l .i) ≡ false = sym held ∙ w .0 .left in
+    (omega arith, omega (arith, l .inv .1, w .1, ap length (passed p (l .i) (λ k. h k && sameFace (faceOfRow (placeRow (now (a .rows)) (now (a .members)) (l .i))) (faceOfRow (placeRow (now (a .rows)) (now (a .members)) (a .chosen)))))))))
     (c .if2 .came)
 
-returns-2 : tie.Need-returns-2 Inv-loop μ-loop
-returns-2 c =
+returns-3 : tie.Need-returns-3 Inv-loop μ-loop
+returns-3 c =
     let l = c .before .loop in
-    let a = c .before .before .before .args in
+    let begin = c .before .before .before in
+    let a = begin .before .before .args in
     let end : l .i ≡ a .count = omega arith in
-    rw (equal-kept (familyOfRows (now (a .group)) (a .count)) (heldRow (now (a .group))) (a .chosen) (c .before .before .if1 .left), ← end)
-    (lists-wider (l .places) (l .found) (l .i) 64 _ (l .inv .1) (omega arith))
+    sym
+    (rw (equal-kept (familyOfRows (now (a .rows)) (now (a .members)) (a .count)) (heldRow (now (a .rows)) (now (a .members))) (a .chosen) (begin .if1 .left), ← end)
+    (pick-past Place Left (placesBelow (equal (now (a .rows)) (now (a .members)) (a .chosen)) (l .i)) (a .n) (l .left) (omega (arith, l .inv .1))))
 
 pub held-equal-spec : {M : Type 1} → statement M
 held-equal-spec =
@@ -99,13 +121,15 @@ held-equal-spec =
     Inv-loop
     μ-loop
     returns
+    place-row-requires
     loop-holds
-    held-at-requires
+    place-row-requires-2
+    is-held-requires
     same-face-requires
-    cast-places
-    array-write-places
-    add-found
+    cast-t15
+    returns-2
+    sub-left
     add-i
     loop-less
     loop-again
-    returns-2)
+    returns-3)

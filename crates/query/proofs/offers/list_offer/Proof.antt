@@ -5,12 +5,13 @@ use mathlib.Core.List.{List}
 use native.Mathlib.Omega.{arith}
 use lib.ListN.{drop}
 use denote.Ref.{now}
-use Rattle.query.specs.declared.offers.FamilyOffer.{FamilyOffer}
+use Rattle.query.specs.declared.families.FamilyOffer.{FamilyOffer}
 use Rattle.query.specs.declared.offers.ListOffer.{ListOffer}
 use Rattle.query.specs.Job.{jobOf}
 use Rattle.query.specs.View.{viewOf}
 use Rattle.query.specs.Values.{listAt}
 use Rattle.query.specs.Offers.{offerOf}
+use Rattle.query.specs.CallTables.{TablesOf}
 use Rattle.query.specs.Listed.{Counted}
 use Rattle.query.proofs.Turns.{list-length, list-number, turns, after-one, one-more, no-more}
 use borrow.Author.Needs.{needs}
@@ -18,13 +19,13 @@ use Rattle.query.proofs.offers.list_offer.Statement.{statement}
 use Rattle.query.proofs.offers.list_offer.Tie as tie
 
 abbrev Inv-loop : tie.InvT-loop
-Inv-loop job at rows families counts₀ request n count left₀ k₀ counts left k =
+Inv-loop job at rows families₀ request n count left₀ k₀ families left k =
     (k ≤ count)
-    × Counted job request counts
+    × (TablesOf job rows families × Counted job request families)
     × (turns (viewOf (jobOf job)) request (listAt job at) n ≡ turns (viewOf (jobOf job)) request (drop k (listAt job at)) left)
 
 abbrev μ-loop : tie.MeasureT-loop
-μ-loop job at rows families counts₀ request n count left₀ k₀ counts left k = count - k
+μ-loop job at rows families₀ request n count left₀ k₀ families left k = count - k
 
 abbrev Start : Type 0
 Start = tie.Start Inv-loop μ-loop
@@ -63,7 +64,7 @@ cast-count : tie.Need-cast-count Inv-loop μ-loop
 cast-count c = search needs
 
 loop-holds : tie.Need-loop-holds Inv-loop μ-loop
-loop-holds c = (omega arith, c .before .before .pre .2, refl)
+loop-holds c = (omega arith, (c .before .before .pre .1, c .before .before .pre .2), refl)
 
 add-u16-at : tie.Need-add-u16-at Inv-loop μ-loop
 add-u16-at c = search needs
@@ -78,7 +79,7 @@ u16-at-requires : tie.Need-u16-at-requires Inv-loop μ-loop
 u16-at-requires c κs = search needs
 
 number-offer-requires : tie.Need-number-offer-requires Inv-loop μ-loop
-number-offer-requires c κs = (c .before .before .before .before .before .before .pre .1, c .before .before .before .loop .inv .1)
+number-offer-requires c κs = c .before .before .before .loop .inv .1
 
 enum-known-place : tie.Need-enum-known-place Inv-loop μ-loop
 enum-known-place c = search needs

@@ -63,13 +63,13 @@ unfolding listedAt requestAt
 returns c =
     let s = c .before .before .before in
     let a = s .args in
-    cut-off (viewOf (jobOf (now (a .job)))) (a .request) (u16At (now (a .job)) (a .at)) (named s) (fallbacks s) (a .n) (omega arith)
+    (cut-off (viewOf (jobOf (now (a .job)))) (a .request) (u16At (now (a .job)) (a .at)) (named s) (fallbacks s) (a .n) (omega arith), s .pre .1)
 
 add-named : tie.Need-add-named
 add-named c = search needs
 
 list-offer-requires : tie.Need-list-offer-requires
-list-offer-requires c κs = (omega arith, c .before .before .before .before .pre .1, none-counted _ _)
+list-offer-requires c κs = let p = c .before .before .before .before .pre in (omega arith, p .1, none-counted _ _ _ (p .2))
 
 enum-known-offer : tie.Need-enum-known-offer
 enum-known-offer c = search needs
@@ -104,13 +104,13 @@ enum-told c = search needs
 returns-2 : tie.Need-returns-2
 returns-2 c =
     let b = c .before .before .before in
-    ap (after (b .before .before .before .before .before)) (sym (c .before .offer .given .1)) ∙ named-answered b
+    (ap (after (b .before .before .before .before .before)) (sym (c .before .offer .given .1)) ∙ named-answered b, b .list-offer .ensures .1 .0)
 
 returns-3 : tie.Need-returns-3
-returns-3 c = ap after-all (sym (c .before .offer2 .given .1)) ∙ all-answered (c .before .before .before)
+returns-3 c = let b = c .before .before .before in (ap after-all (sym (c .before .offer2 .given .1)) ∙ all-answered b, b .list-offer2 .ensures .1 .0)
 
 returns-4 : tie.Need-returns-4
-returns-4 c = ap after-all (sym (c .enum-told .given .1)) ∙ all-answered (c .before .before)
+returns-4 c = let b = c .before .before in (ap after-all (sym (c .enum-told .given .1)) ∙ all-answered b, b .list-offer2 .ensures .1 .0)
 
 pub request-offer-spec : {M : Type 1} → statement M
 request-offer-spec =
