@@ -106,7 +106,7 @@ impl Counts {
 pub fn compare(program: &Program, seed: u64, choices: u64) -> Result<Counts, String> {
     let mut counts = Counts::default();
     let mut seeds = Random::new(seed);
-    let mut first = families::faces_to_try();
+    let mut first = families::made();
     while counts.choices < choices {
         // What did not fit is left: the next chunk has a new seed.
         let random = families::with_zeros(seeds.draw());

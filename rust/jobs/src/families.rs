@@ -9,6 +9,8 @@ use crate::{
     random::Random,
 };
 
+pub mod stages;
+
 /// An axis as `fvar` gives it, and a default that an override sets. An
 /// override reaches only the first axis with a tag.
 #[derive(Copy, Clone, PartialEq, Debug)]
@@ -134,6 +136,15 @@ fn weights(list: &[f32]) -> Vec<FacePlan> {
 
 fn styles(list: &[Style]) -> Vec<FacePlan> {
     list.iter().map(|s| plain(1.0, *s, 400.0)).collect()
+}
+
+/// The cases for a purpose: those of section 7, then the stages.
+pub fn made() -> Vec<Case> {
+    let stages = stages::stages();
+    let cases = stages.iter().flat_map(|stage| stage.cases());
+    let mut out = faces_to_try();
+    out.extend(cases.map(|(case, _)| case));
+    out
 }
 
 /// Section 7 of docs/GUIDE.md, each with synthesis on and off. Its 12 is among

@@ -330,6 +330,7 @@ fn overrides(r: &mut Random, shape: Shape, faces: usize, pools: &Pools) -> Vec<O
 fn families(r: &mut Random, shape: Shape, faces: usize) -> Vec<Vec<u16>> {
     let count = match shape {
         Shape::ManyFamilies => r.pick(&[5, 20, 63, 64]),
+        Shape::ManyFaces => r.within(2, 4),
         Shape::LongLists => r.within(1, 3),
         _ => r.pick(&[0, 1, 1, 1, 2, 2, 3, 4]),
     };
@@ -337,24 +338,33 @@ fn families(r: &mut Random, shape: Shape, faces: usize) -> Vec<Vec<u16>> {
     for _ in 0..count {
         let places = match shape {
             _ if faces == 0 => 0,
-            Shape::LongFamilies | Shape::ManyFaces => {
-                let most = r.pick(&[12, 63, 64, 64]);
-                r.within(2, most)
-            }
+            Shape::LongFamilies | Shape::ManyFaces => match r.below(4) {
+                0 => r.within(2, 12),
+                1 => r.within(2, 63),
+                _ => 64,
+            },
             Shape::LongLists => r.below(4),
             _ => r.pick(&[0, 1, 2, 2, 3, 3, 4, 5, 6, 8]),
         };
-        let turn = r.below(faces.max(1));
-        let family = match r.below(3) {
-            // In turn, from some face on, and around.
-            0 => (0..places)
-                .map(|i| ((turn + i) % faces.max(1)) as u16)
-                .collect(),
-            _ => (0..places).map(|_| r.below(faces) as u16).collect(),
-        };
-        out.push(family);
+        out.push(members(r, places, faces.max(1)));
     }
     out
+}
+
+/// The faces of so many places: in turn from some face on, and around, or so
+/// backwards; of the last ones; one alone; or as it comes.
+fn members(r: &mut Random, places: usize, faces: usize) -> Vec<u16> {
+    let first = r.below(faces);
+    let late = faces.saturating_sub(r.pick(&[8, 55, 64, 128]));
+    let way = r.below(12);
+    let number = |place: usize| match way {
+        0..=2 => (first + place) % faces,
+        3..=4 => (first + faces - place % faces) % faces,
+        5..=7 => r.within(late, faces - 1),
+        8 => first,
+        _ => r.below(faces),
+    };
+    (0..places).map(number).map(|face| face as u16).collect()
 }
 
 fn list(r: &mut Random, shape: Shape, families: usize, most: usize) -> Vec<u16> {
@@ -435,14 +445,18 @@ pub fn job(r: &mut Random) -> Job {
     let pools = pools(r);
     let spread = spread(r);
     let count = match shape {
-        Shape::ManyFaces => r.pick(&[40, 100, 255, 256]),
+        Shape::ManyFaces => r.pick(&[40, 64, 65, 200, 255, 256, 256, 256]),
         _ if r.chance(1, 40) => 0,
         _ => r.pick(&[1, 2, 2, 3, 3, 4, 4, 5, 6, 8, 12]),
     };
-    // Many faces are small ones.
+    // Many faces are small ones, with one axis at most.
     let bare = shape == Shape::ManyFaces;
     let fonts = Fonts {
-        spread: if bare { Spread::Bare } else { spread },
+        spread: if bare && !matches!(spread, Spread::Slant) {
+            Spread::Bare
+        } else {
+            spread
+        },
         pools: &pools,
         bare,
         held: r.pick(&[1, 3, 4, 4]),
@@ -461,5 +475,35 @@ pub fn job(r: &mut Random) -> Job {
             .collect(),
         faces,
         families,
+    }
+}
+
+#[cfg(test)]
+mod tests {
+    use super::*;
+
+    /// Whether a request names one of so many families three times or more.
+    fn names_again(request: &Request, families: usize) -> bool {
+        let named = || request.families.iter().chain(&request.fallbacks);
+        let times = |family: usize| named().filter(|n| usize::from(**n) == family).count();
+        (0..families).any(|family| times(family) >= 3)
+    }
+
+    /// Long families of late faces are not rare, nor are families that are named again.
+    #[test]
+    fn late_faces_and_families_named_again() {
+        let mut r = Random::new(2026);
+        let (mut over_127, mut over_200, mut again) = (0, 0, 0);
+        for _ in 0..10_000 {
+            let job = job(&mut r);
+            let long = |family: &&Vec<u16>| family.len() == 64;
+            let last = job.families.iter().filter(long).flatten().max();
+            over_127 += u32::from(last.is_some_and(|last| *last > 127));
+            over_200 += u32::from(last.is_some_and(|last| *last > 200));
+            let families = job.families.len();
+            again += u32::from(job.requests.iter().any(|q| names_again(q, families)));
+        }
+        println!("over 127: {over_127}, over 200: {over_200}, named again: {again}");
+        assert!(over_127 >= 30 && over_200 >= 20 && again >= 3000);
     }
 }

@@ -12,6 +12,8 @@ use crate::{
 
 mod collections;
 mod damaged;
+mod named;
+mod stages;
 
 /// How many random jobs the stored list has.
 pub const RANDOM_JOBS: usize = 250;
@@ -38,6 +40,8 @@ pub fn made() -> Vec<Case> {
     every_field(&mut list, "every kind of field", &job_of_every_field());
     collections::jobs(&mut list);
     damaged::jobs(&mut list);
+    stages::jobs(&mut list);
+    named::jobs(&mut list);
     list.0
 }
 
@@ -71,12 +75,16 @@ pub fn largest() -> impl Iterator<Item = Case> {
     })
 }
 
-/// Two faces, one of them as long as it takes.
+/// Two faces, one of them as long as it takes; the family is named again.
 fn large_job(size: usize) -> Vec<u8> {
     let mut job = Job {
         faces: vec![face(400), face(700)],
         families: vec![vec![0, 1]],
-        requests: vec![request(1.0, 700.0)],
+        requests: vec![Request {
+            families: vec![0, 9, 0],
+            fallbacks: vec![0],
+            ..request(1.0, 700.0)
+        }],
         ..Job::default()
     };
     let more = size - write(&job).bytes.len();

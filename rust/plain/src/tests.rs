@@ -14,6 +14,7 @@ use crate::{
 use Style::{Italic, Normal};
 
 mod damaged;
+mod named;
 
 const UNSTATED: Style = Style::Oblique(Angle::Unstated);
 

@@ -3,7 +3,7 @@
 use std::{io, path::Path};
 
 use jobs::{
-    families::{self, FacePlan, faces_to_try},
+    families::{self, FacePlan},
     layout::{Override, Style},
 };
 use plain::{
@@ -121,16 +121,17 @@ pub fn write(folder: &Path, cases: &[Case]) -> io::Result<()> {
     lists::write(folder, &stdin, &stdout)
 }
 
-/// The cases of docs/GUIDE.md, section 7, first, then random ones, `count` in all.
+/// The cases for a purpose first, then random ones, `count` in all.
 pub fn cases(seed: u64, count: usize) -> Vec<Case> {
     let random = families::random(seed);
-    let cases = faces_to_try().into_iter().chain(random).take(count);
+    let cases = families::made().into_iter().chain(random).take(count);
     cases.map(|case| Case::new(&case)).collect()
 }
 
 #[cfg(test)]
 mod tests {
     use super::*;
+    use jobs::families::{faces_to_try, stages::stages};
 
     /// The choices that section 7 names, synthesis on and then off.
     #[test]
@@ -153,6 +154,19 @@ mod tests {
             .map(|line| line.split(' ').nth(4).unwrap())
             .collect();
         assert_eq!(skews, ["0", "-14", "127", "-128"]);
+    }
+
+    /// The face that an earlier stage puts aside is not chosen.
+    #[test]
+    fn stages_in_their_turn() {
+        for stage in stages() {
+            for (case, place) in stage.cases() {
+                let line = line(&Case::new(&case));
+                let chosen = line.split(' ').next().unwrap();
+                let expected = place.map_or("-".into(), |place| place.to_string());
+                assert_eq!(chosen, expected, "{}: {case:?}", stage.name);
+            }
+        }
     }
 
     /// Every number is one of section 1 once the faces are made.
