@@ -2,6 +2,7 @@
 
 mod instructions;
 mod measure;
+mod pair;
 mod sizes;
 mod stack;
 
@@ -14,6 +15,7 @@ use stemhook::limits::OFFER_BYTES;
 const USAGE: &str = "\
 usage:
   bench [--rounds N]                             the tables
+  bench --pair BEFORE AFTER [--rounds N]         two builds of our calls, each a shared object (tools/bench-pair)
   bench --loop SIZE [--rounds N]                 our offer call alone, for a profile
   bench --batch proved|rust SIZE CALLS BATCHES   nothing but these calls, for their instructions
 SIZE is small, middle, large or lists; CALLS is `check`, or REQUEST:OFFER with commas between them";
@@ -264,21 +266,26 @@ fn stack_of(asked: &Asked, offer: Offer) -> usize {
     most
 }
 
+/// Which offers of a size are measured, with their names in tables.
+fn which_of(size: &Size) -> Vec<(Which, &'static str)> {
+    let mut which = vec![
+        (Which::First, "first"),
+        (Which::Last, "last"),
+        (Which::Past, "past the list"),
+    ];
+    if size.spread {
+        which.push((Which::Spread, "mean of 16 over the list"));
+    }
+    which
+}
+
 fn offer_table(sizes: &[(&Size, Asked)], count: usize) -> Result<(), String> {
     println!("### The offer call\n");
     println!(
         "| Size, offer | Job, bytes | Proved | Rust | Proved / Rust | Instructions, proved | Instructions, Rust | Proved / Rust |\n|---|---|---|---|---|---|---|---|"
     );
     for (size, asked) in sizes {
-        for (which, name) in [
-            (Which::First, "first"),
-            (Which::Last, "last"),
-            (Which::Past, "past the list"),
-            (Which::Spread, "mean of 16 over the list"),
-        ] {
-            if matches!(which, Which::Spread) && !size.spread {
-                continue;
-            }
+        for (which, name) in which_of(size) {
             let label = format!("{}, {name}", size.label);
             let measured = offers(asked, which, count);
             let calls = calls(asked, which);
@@ -397,11 +404,13 @@ fn batches(side: &str, size: &str, calls: &str, count: &str) -> Option<()> {
 fn run() -> Option<Result<(), String>> {
     let mut count = ROUNDS;
     let mut size = None;
+    let mut pair = None;
     let mut args = env::args().skip(1);
     while let Some(arg) = args.next() {
         match arg.as_str() {
             "--rounds" => count = args.next()?.parse().ok().filter(|count| *count > 0)?,
             "--loop" => size = Some(args.next()?),
+            "--pair" => pair = Some((args.next()?, args.next()?)),
             "--batch" => {
                 let words: Vec<String> = args.collect();
                 let [side, size, calls, count] = &words[..] else {
@@ -412,9 +421,11 @@ fn run() -> Option<Result<(), String>> {
             _ => return None,
         }
     }
-    match size {
-        Some(size) => repeat(&size, count),
-        None => Some(tables(count)),
+    match (size, pair) {
+        (Some(size), None) => repeat(&size, count),
+        (None, Some((before, after))) => Some(pair::tables(&before, &after, count)),
+        (None, None) => Some(tables(count)),
+        (Some(_), Some(_)) => None,
     }
 }
 
@@ -474,6 +485,15 @@ mod tests {
                 assert!((0..64).all(|family| list.contains(&family)));
                 assert_eq!(list.iter().filter(|family| **family >= 64).count(), 31);
             }
+        }
+    }
+
+    /// What README.md and the header for C say of a call's stack.
+    #[test]
+    fn stack_of_a_call() {
+        for (size, asked) in asked_sizes().unwrap() {
+            let bytes = stack_of(&asked, proved);
+            assert!((5_000..=8_192).contains(&bytes), "{}: {bytes}", size.label);
         }
     }
 
