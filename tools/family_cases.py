@@ -3,11 +3,12 @@
 
     python3 tools/family_cases.py > crates/family_cases/stdout
 
-The model is of docs/GUIDE.md: the refusals 19, 24 and 26 of calls on a family or face by value (section 6), and sections
-4 and 5 as far as the cases go: every face of an accepted case is normal. It shares nothing with the Rattle code but the
+The model is of docs/GUIDE.md: the refusals 19, 24 and 26 of calls on a family or face by value, and 25 before them
+(section 6), and sections 4 and 5 as far as the cases go: every face of a family that is accepted is normal. It shares nothing with the Rattle code but the
 cases, which stand there in the same order and under the same names.
 """
 import math
+import struct
 
 NAN = math.nan
 INF = math.inf
@@ -126,7 +127,7 @@ def equal_list(family, chosen):
     return [] if chosen is None else [place for place, face in enumerate(family) if face[0] == family[chosen][0]]
 
 
-# Section 5, for a normal face, without the skew.
+# Section 5, without the skew: the tags that are set; a face that is not normal gets no setting of style.
 
 
 def settings(face, request):
@@ -135,7 +136,7 @@ def settings(face, request):
         found.append("wdth")
     if "wght" in tags(face) and face[1][tags(face).index("wght")][2] != request[2]:
         found.append("wght")
-    if request[1] is not NORMAL and "slnt" in tags(face):
+    if own[1] is NORMAL and request[1] is not NORMAL and "slnt" in tags(face):
         found.append("slnt")
     return found
 
@@ -202,6 +203,24 @@ def synthesize(name, face, request):
         return " ".join(["b" if embolden else "-", str(len(found))] + slots)
 
     print(f"synthesis {name}: {told(number, made)}")
+
+
+def slant_value(reading, degrees):
+    """What `slnt` is set to: the degrees as they are, or under reading 1 the opposite, a zero being positive."""
+    return degrees if reading == 0 else 0.0 if degrees == 0 else -degrees
+
+
+def slant(name, face, request):
+    for reading in [0, 1, 2, 2**32 - 1]:
+        number = 19 if face[2] > 16 else 0 if accepted_face(face) and accepted(request) else 26
+
+        def made():
+            found = settings(face, request)
+            values = {"slnt": lambda: slant_value(reading, request[1])}
+            tag, value = (found[0], values[found[0]]()) if found else ("\0\0\0\0", 0.0)
+            return f"{len(found)} {tag.encode().hex()} {struct.pack('>f', value).hex()}"
+
+        print(f"slant {name}, reading {reading}: {told(number if reading < 2 else 25, made)}")
 
 
 MANY = with_axes(17)
@@ -295,3 +314,14 @@ synthesize("axis NaN", varied(DEFAULT, NAN, 3), WANTED)
 synthesize("request infinite", weighing(300.0), WITHOUT_END)
 synthesize("request NaN", weighing(300.0), oblique(NAN))
 synthesize("request ratio over 16", weighing(300.0), normal(16.000002, 300.0))
+
+slant("oblique 12", with_axes(2), oblique(12.0))
+slant("oblique -12", with_axes(2), oblique(-12.0))
+slant("oblique 0", with_axes(2), oblique(0.0))
+slant("oblique -0", with_axes(2), oblique(-0.0))
+slant("oblique 1e-45", with_axes(2), oblique(2.0**-149))
+slant("normal", with_axes(2), DEFAULT)
+slant("no axis", with_axes(0), oblique(12.0))
+slant("17 axes", MANY, oblique(12.0))
+slant("request infinite", with_axes(2), oblique(INF))
+slant("an oblique face", plain(oblique(-12.0)), oblique(12.0))

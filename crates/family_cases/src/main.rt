@@ -1,15 +1,17 @@
 // Runs built-in families and faces through the calls on a family or face by value, and prints a line for each case.
 //
 // The file `stdout` of this crate is what `python3 tools/family_cases.py` prints: a model of the refusals 19, 24 and 26 of
-// these calls, and of sections 4 and 5 as far as the cases go, run on the same cases, which bear the same names there. A
-// line is
+// these calls, and of 25, and of sections 4 and 5 as far as the cases go, run on the same cases, which bear the same names
+// there. A line is
 //
 //     match NAME: CHOICE; LIST; DEFAULT
 //     fetch NAME: AXES
 //     synthesis NAME: EMBOLDEN COUNT TAG TAG TAG
+//     slant NAME, reading N: COUNT TAG VALUE
 //
 // with `refused N` in the place of each answer that is a refusal. CHOICE is a place or `-`, LIST how many places the equal
-// list has and, where it has one, the first of them. AXES says how many axes the fetched face has.
+// list has and, where it has one, the first of them. AXES says how many axes the fetched face has. A synthesis is made
+// under reading 0. A slant is one under each reading and under two numbers that are none, with the first slot by its bits.
 use font::attributes::Angle;
 use font::attributes::Attributes;
 use font::attributes::FontStyle;
@@ -113,6 +115,14 @@ fn print_synthesis(synthesis: Synthesis) {
     print_tag(tags[0]);
     print_tag(tags[1]);
     print_tag(tags[2]);
+}
+
+// The bits of a value. No setting is a NaN, for which 0 would be printed.
+fn bits_of(value: f32) -> u32 {
+    if value != value {
+        return 0;
+    }
+    f32::to_bits(value)
 }
 
 // Making values.
@@ -260,8 +270,41 @@ fn synthesize(name: &[u8], font: FontInfo, request: Attributes) {
     let style = request.style;
     let weight = request.weight;
     print_name(b"synthesis ", name);
-    print_synthesis(face::synthesis(font, width, style, weight));
+    print_synthesis(face::synthesis(font, 0, width, style, weight));
     io::write_all(STDOUT_FILENO, b"\n");
+}
+
+fn print_slant(synthesis: Synthesis) {
+    let tags = synthesis.tags;
+    let values = synthesis.values;
+    if synthesis.refusal != 0 {
+        print_refused(synthesis.refusal);
+        return;
+    }
+    print_number(b" ", synthesis.len as usize);
+    print_tag(tags[0]);
+    print_tag(bits_of(values[0]));
+}
+
+// The synthesis of a face for a style under a reading.
+fn slant_under(name: &[u8], font: FontInfo, reading: u32, request: Attributes) {
+    let width = request.width;
+    let style = request.style;
+    let weight = request.weight;
+    io::write_all(STDOUT_FILENO, b"slant ");
+    io::write_all(STDOUT_FILENO, name);
+    print_number(b", reading ", reading as usize);
+    io::write_all(STDOUT_FILENO, b":");
+    print_slant(face::synthesis(font, reading, width, style, weight));
+    io::write_all(STDOUT_FILENO, b"\n");
+}
+
+// Under each reading, and under two numbers that are none.
+fn slant(name: &[u8], font: FontInfo, request: Attributes) {
+    slant_under(name, font, 0, request);
+    slant_under(name, font, 1, request);
+    slant_under(name, font, 2, request);
+    slant_under(name, font, 0xFFFF_FFFF, request);
 }
 
 // The cases, in the order of the script.
@@ -448,6 +491,19 @@ fn synthesis_refused() {
     );
 }
 
+fn slants() {
+    slant(b"oblique 12", with_axes(2), oblique(12.0));
+    slant(b"oblique -12", with_axes(2), oblique(-12.0));
+    slant(b"oblique 0", with_axes(2), oblique(0.0));
+    slant(b"oblique -0", with_axes(2), oblique(-0.0));
+    slant(b"oblique 1e-45", with_axes(2), oblique(f32::from_bits(1)));
+    slant(b"normal", with_axes(2), Attributes::DEFAULT);
+    slant(b"no axis", with_axes(0), oblique(12.0));
+    slant(b"17 axes", with_axes(17), oblique(12.0));
+    slant(b"request infinite", with_axes(2), oblique(infinity()));
+    slant(b"an oblique face", plain(oblique(-12.0)), oblique(12.0));
+}
+
 fn main() {
     match_few();
     match_counts();
@@ -461,4 +517,5 @@ fn main() {
     fetch_numbers();
     synthesis_made();
     synthesis_refused();
+    slants();
 }

@@ -22,14 +22,16 @@ use Rattle.font.specs.declared.tables.Table.the-variants.{Absent, Damage
 use Rattle.font.specs.First.{every}
 use Rattle.font.specs.Single.{single, fixedToSingle, acceptedRatio}
 use Rattle.font.specs.Attributes.{attributesOf, defaultAttributes, acceptedAngle, acceptedStyle, acceptedAttributes}
+use Rattle.font.specs.Slant.{slantUnder}
 use Rattle.font.specs.Tables.{u16At, u32At, findTable, partOf, tableData}
 use Rattle.font.specs.Collection.{fontStart}
-use Rattle.font.specs.Reading.{present, bit, thousandths, classWidths, widthOfClass, postAngle, os2Style, fromOs2Post, headStyle, headWeight, fromHead, fromTables}
+use Rattle.font.specs.StatedAttributes.{present, bit, thousandths, classWidths, widthOfClass, postAngle, os2Style, fromOs2Post, headStyle, headWeight, fromHead, fromTables}
 use Rattle.font.specs.Font.{fvarOf, axisCount, axisAt, axesOf, emptyFont, faceOf, fromFontRef}
 use Rattle.font.specs.Overrides.{axisOf, acceptedAxis, acceptedFace, refusalOf}
 use Rattle.font.proofs.Units.{value-finite, grid-le, round-value}
 use Rattle.font.proofs.Nearest.{fixed-nearest}
-use Rattle.font.proofs.FaceOf.{few-stated, each-face, axis-there}
+use Rattle.font.proofs.FaceOf.{few-stated, taken-under, each-face, axis-there}
+use Rattle.font.proofs.Opposites.{slant-finite}
 
 known : (b : Bool) → T b → b ≡ true
 known true t = refl
@@ -110,21 +112,21 @@ made : (ratio : Float) (style : FontStyle) (weight : Float) → acceptedRatio ra
 unfolding acceptedAttributes
 made ratio style weight r s w = rw (r, s, w)
 
-style-accepted : (os2 post : List ℕ) → Bytes post → acceptedStyle (os2Style os2 post) ≡ true
+style-accepted : (reading : ℕ) (os2 post : List ℕ) → Bytes post → acceptedStyle (os2Style reading os2 post) ≡ true
 unfolding os2Style postAngle acceptedStyle acceptedAngle
-style-accepted os2 post h = go (bit 0 (u16At os2 62)) (bit 9 (u16At os2 62)) (present post)
+style-accepted reading os2 post h = go (bit 0 (u16At os2 62)) (bit 9 (u16At os2 62)) (present post)
   where
-    go : (a b c : Bool) → acceptedStyle (cond a Italic (cond b (Oblique (cond c (Degrees (fixedToSingle (u32At post 4))) Unstated)) Normal)) ≡ true
+    go : (a b c : Bool) → acceptedStyle (cond a Italic (cond b (Oblique (cond c (Degrees (slantUnder reading (fixedToSingle (u32At post 4)))) Unstated)) Normal)) ≡ true
     go true b c = refl
-    go false true true = fixed-finite (u32At post 4) (below32 post h 4)
+    go false true true = slant-finite reading (fixedToSingle (u32At post 4)) ∙ fixed-finite (u32At post 4) (below32 post h 4)
     go false true false = refl
     go false false c = refl
 
-os2-accepted : (os2 post : List ℕ) → Bytes os2 → Bytes post → acceptedAttributes (fromOs2Post os2 post) ≡ true
+os2-accepted : (reading : ℕ) (os2 post : List ℕ) → Bytes os2 → Bytes post → acceptedAttributes (fromOs2Post reading os2 post) ≡ true
 unfolding fromOs2Post
-os2-accepted os2 post h k =
-    made (widthOfClass (u16At os2 6)) (os2Style os2 post) (single (u16At os2 4))
-    (width-accepted (u16At os2 6)) (style-accepted os2 post k) (single-finite (u16At os2 4) (below16 os2 h 4))
+os2-accepted reading os2 post h k =
+    made (widthOfClass (u16At os2 6)) (os2Style reading os2 post) (single (u16At os2 4))
+    (width-accepted (u16At os2 6)) (style-accepted reading os2 post k) (single-finite (u16At os2 4) (below16 os2 h 4))
 
 upright : (a : Bool) → acceptedStyle (cond a Italic Normal) ≡ true
 unfolding acceptedStyle
@@ -146,9 +148,9 @@ default-accepted : acceptedAttributes defaultAttributes ≡ true
 unfolding defaultAttributes
 default-accepted = made (single 1) Normal (single 400) one-accepted (upright false) (single-finite 400 (lit< tt))
 
-attributes-accepted : (font : List ℕ) (start : ℕ) → Bytes font → acceptedAttributes (fromTables font start) ≡ true
+attributes-accepted : (reading : ℕ) (font : List ℕ) (start : ℕ) → Bytes font → acceptedAttributes (fromTables reading font start) ≡ true
 unfolding fromTables
-attributes-accepted font start h = go (present (tableData font start 0x4F532F32 78)) (present (tableData font start 0x68656164 54))
+attributes-accepted reading font start h = go (present (tableData font start 0x4F532F32 78)) (present (tableData font start 0x68656164 54))
   where
     os2 : List ℕ
     os2 = tableData font start 0x4F532F32 78
@@ -159,8 +161,8 @@ attributes-accepted font start h = go (present (tableData font start 0x4F532F32 
     head : List ℕ
     head = tableData font start 0x68656164 54
 
-    go : (a b : Bool) → acceptedAttributes (cond a (fromOs2Post os2 post) (cond b (fromHead head) defaultAttributes)) ≡ true
-    go true b = os2-accepted os2 post (table-bytes font start 0x4F532F32 78 h) (table-bytes font start 0x706F7374 32 h)
+    go : (a b : Bool) → acceptedAttributes (cond a (fromOs2Post reading os2 post) (cond b (fromHead head) defaultAttributes)) ≡ true
+    go true b = os2-accepted reading os2 post (table-bytes font start 0x4F532F32 78 h) (table-bytes font start 0x706F7374 32 h)
     go false true = head-accepted head
     go false false = default-accepted
 
@@ -192,20 +194,24 @@ empty-fine : Fine emptyFont
 unfolding emptyFont
 empty-fine = (omega arith, empty-accepted)
 
-face-fine : (font : List ℕ) (start : ℕ) → Bytes font → axisCount (fvarOf font start) ≤ 16 → Fine (faceOf font start)
+face-fine : (reading : ℕ) (font : List ℕ) (start : ℕ) → Bytes font → axisCount (fvarOf font start) ≤ 16 → Fine (faceOf reading font start)
 unfolding acceptedFace fvarOf faceOf
-face-fine font start h l =
+face-fine reading font start h l =
     let fvar = tableData font start 0x66766172 16 in
-    (l, rw (attributes-accepted font start h, axes-accepted fvar (axisCount fvar) (table-bytes font start 0x66766172 16 h) l))
+    (l, rw (attributes-accepted reading font start h, axes-accepted fvar (axisCount fvar) (table-bytes font start 0x66766172 16 h) l))
 
-read-fine : (font : List ℕ) (number : ℕ) → Bytes font → Fine (fromFontRef font number .font)
-read-fine font number h = each-face Fine font number empty-fine (λ z. face-fine font (fontStart font number) h (few-stated font number z))
+read-fine : (reading : ℕ) (font : List ℕ) (number : ℕ) → Bytes font → Fine (fromFontRef reading font number .font)
+read-fine reading font number h =
+    each-face reading font number Fine empty-fine
+    (λ z. face-fine reading font (fontStart font number) h (few-stated font number (taken-under reading font number z .1)))
 
 -- the face that a font gives has only accepted numbers
-pub read-accepted : (font : List ℕ) (number : ℕ) → Bytes font → acceptedFace (fromFontRef font number .font) ≡ true
-read-accepted font number h = read-fine font number h .1
+pub read-accepted : (reading : ℕ) (font : List ℕ) (number : ℕ) → Bytes font → acceptedFace (fromFontRef reading font number .font) ≡ true
+read-accepted reading font number h = read-fine reading font number h .1
 
 -- so that a call on it refuses only for what is given beside it
-pub read-not-refused : (font : List ℕ) (number : ℕ) → Bytes font → (given : Bool) → refusalOf (fromFontRef font number .font) given ≡ cond given 0 26
+pub read-not-refused : (reading : ℕ) (font : List ℕ) (number : ℕ) → Bytes font → (given : Bool)
+    → refusalOf (fromFontRef reading font number .font) given ≡ cond given 0 26
 unfolding refusalOf
-read-not-refused font number h given = rw (le-leb (fromFontRef font number .font .«axis_count») 16 (read-fine font number h .0), read-accepted font number h)
+read-not-refused reading font number h given =
+    rw (le-leb (fromFontRef reading font number .font .«axis_count») 16 (read-fine reading font number h .0), read-accepted reading font number h)

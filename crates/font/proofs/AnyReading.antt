@@ -14,16 +14,17 @@ use Rattle.font.specs.declared.charmap.CharmapIndex.{CharmapIndex}
 use Rattle.font.specs.declared.charmap.Charmap.the-variants.{Missing, Index}
 use Rattle.font.specs.declared.font.AxisInfo.{AxisInfo}
 use Rattle.font.specs.declared.font.Checked.{Checked}
-use Rattle.font.specs.declared.font.FontAttributes.the-variants.{Lost, Stated}
+use Rattle.font.specs.declared.font.FontAttributes.the-variants.{Refused, Stated}
 use Rattle.font.specs.declared.font.FontInfo.{FontInfo}
 use Rattle.font.specs.Attributes.{defaultAttributes}
+use Rattle.font.specs.Slant.{isReading}
 use Rattle.font.specs.Tables.{u16At, u32At, startsAsFont, recordCount, recordTag, recordOffset, recordLength, directoryFits, firstRecord, tableOfRecord, findTable, partOf, tableData, handOut, handedTable, isDamaged}
 use Rattle.font.specs.Collection.{isCollection, headerFits, fontCount, offsetsFit, offsetOf, fontStart}
-use Rattle.font.specs.Reading.{present, postAngle, os2Style, fromOs2Post, fromHead, fromTables, needsPost, neededDamaged, losesNeeded, readAttributes}
+use Rattle.font.specs.StatedAttributes.{present, postAngle, os2Style, fromOs2Post, fromHead, fromTables, needsPost, neededDamaged, losesNeeded, readAttributes}
 use Rattle.font.specs.First.{first}
 use Rattle.font.specs.Charmap.{classOf, subtableOffset, liesIn, pairClass, qualifies, recordClass, someQualifies, bestClass, bestRecord, indexOf, indexIn, charmapIndex}
-use Rattle.font.specs.Font.{fvarOf, axisCount, axisAt, noAxis, axesOf, refusalAt, fontRefusal, emptyFont, faceOf, checkedBy, fromFontRef, statesAxis}
-use Rattle.font.proofs.FieldReadings.{Fields, bytesAt, lost, countBy, startBy, fitsBy, recordBy, tableBy, findBy, angleBy, os2By, headBy, withoutBy, statedBy, attributesBy, needsPostBy, neededBy, losesBy, countInBy, axisCountBy, axisBy, axesBy, statesBy, classBy, qualifiesBy, recordClassBy, indexInBy, indexBy, refusalAtBy, refusalBy, faceBy, fontBy}
+use Rattle.font.specs.Font.{fvarOf, axisCount, axisAt, noAxis, axesOf, refusalAt, fontRefusal, refusalUnder, emptyFont, faceOf, checkedBy, fromFontRef, statesAxis}
+use Rattle.font.proofs.FieldReadings.{Fields, bytesAt, lost, countBy, startBy, fitsBy, recordBy, tableBy, findBy, angleBy, os2By, headBy, withoutBy, statedBy, attributesBy, needsPostBy, neededBy, losesBy, countInBy, axisCountBy, axisBy, axesBy, statesBy, classBy, qualifiesBy, recordClassBy, indexInBy, indexBy, refusalAtBy, refusalBy, underBy, faceBy, fontBy}
 use Rattle.font.proofs.First.{first-same}
 use Rattle.font.proofs.Tabulated.{same}
 use Rattle.font.proofs.Lookup.{records-inside, long}
@@ -110,15 +111,15 @@ module _ (r16 r32 : Fields) (right : Right r16 r32) where
           found false l = refl
 
   -- ---- attributes
-  angle-same : (font : List ℕ) (start : ℕ) (t : Table) → findTable font start 0x706F7374 32 ≡ t → angleBy r16 r32 font t ≡ postAngle (partOf font t)
+  angle-same : (reading : ℕ) (font : List ℕ) (start : ℕ) (t : Table) → findTable font start 0x706F7374 32 ≡ t → angleBy r16 r32 reading font t ≡ postAngle reading (partOf font t)
   unfolding angleBy postAngle partOf present
-  angle-same font start Absent e = refl
-  angle-same font start Damaged e = refl
-  angle-same font start (Found o n) e = rw (there font start 0x706F7374 32 o n e (omega arith), right .whole32 (bytesAt font o n) 4 (omega (arith, long font start 0x706F7374 32 o n e)))
+  angle-same reading font start Absent e = refl
+  angle-same reading font start Damaged e = refl
+  angle-same reading font start (Found o n) e = rw (there font start 0x706F7374 32 o n e (omega arith), right .whole32 (bytesAt font o n) 4 (omega (arith, long font start 0x706F7374 32 o n e)))
 
-  os2-same : (os2 post : List ℕ) → 78 ≤ length os2 → os2By r16 r32 os2 (postAngle post) ≡ fromOs2Post os2 post
+  os2-same : (reading : ℕ) (os2 post : List ℕ) → 78 ≤ length os2 → os2By r16 r32 os2 (postAngle reading post) ≡ fromOs2Post reading os2 post
   unfolding os2By fromOs2Post os2Style
-  os2-same os2 post l = rw (right .whole16 os2 6 (omega arith), right .whole16 os2 62 (omega arith), right .whole16 os2 4 (omega arith))
+  os2-same reading os2 post l = rw (right .whole16 os2 6 (omega arith), right .whole16 os2 62 (omega arith), right .whole16 os2 4 (omega arith))
 
   head-same : (head : List ℕ) → 54 ≤ length head → headBy r16 r32 head ≡ fromHead head
   unfolding headBy fromHead
@@ -132,20 +133,20 @@ module _ (r16 r32 : Fields) (right : Right r16 r32) where
   without-same font start Damaged h = refl
   without-same font start Absent h = refl
 
-  stated-same : (font : List ℕ) (start : ℕ) (os2 post head : Table) → findTable font start 0x4F532F32 78 ≡ os2 → findTable font start 0x706F7374 32 ≡ post → findTable font start 0x68656164 54 ≡ head
-      → statedBy r16 r32 font os2 post head
-      ≡ cond (present (partOf font os2)) (fromOs2Post (partOf font os2) (partOf font post)) (cond (present (partOf font head)) (fromHead (partOf font head)) defaultAttributes)
+  stated-same : (reading : ℕ) (font : List ℕ) (start : ℕ) (os2 post head : Table) → findTable font start 0x4F532F32 78 ≡ os2 → findTable font start 0x706F7374 32 ≡ post → findTable font start 0x68656164 54 ≡ head
+      → statedBy r16 r32 reading font os2 post head
+      ≡ cond (present (partOf font os2)) (fromOs2Post reading (partOf font os2) (partOf font post)) (cond (present (partOf font head)) (fromHead (partOf font head)) defaultAttributes)
   unfolding statedBy partOf present
-  stated-same font start (Found o n) post head e p h =
-      rw (there font start 0x4F532F32 78 o n e (omega arith), angle-same font start post p) (os2-same (bytesAt font o n) (partOf font post) (long font start 0x4F532F32 78 o n e))
-  stated-same font start Damaged post head e p h = without-same font start head h
-  stated-same font start Absent post head e p h = without-same font start head h
+  stated-same reading font start (Found o n) post head e p h =
+      rw (there font start 0x4F532F32 78 o n e (omega arith), angle-same reading font start post p) (os2-same reading (bytesAt font o n) (partOf font post) (long font start 0x4F532F32 78 o n e))
+  stated-same reading font start Damaged post head e p h = without-same font start head h
+  stated-same reading font start Absent post head e p h = without-same font start head h
 
-  tables-same : (font : List ℕ) (start : ℕ) → attributesBy r16 r32 font start ≡ fromTables font start
+  tables-same : (reading : ℕ) (font : List ℕ) (start : ℕ) → attributesBy r16 r32 reading font start ≡ fromTables reading font start
   unfolding attributesBy fromTables tableData
-  tables-same font start =
+  tables-same reading font start =
       rw (find-same font start 0x4F532F32 78, find-same font start 0x706F7374 32, find-same font start 0x68656164 54)
-      (stated-same font start (findTable font start 0x4F532F32 78) (findTable font start 0x706F7374 32) (findTable font start 0x68656164 54) refl refl refl)
+      (stated-same reading font start (findTable font start 0x4F532F32 78) (findTable font start 0x706F7374 32) (findTable font start 0x68656164 54) refl refl refl)
 
   -- whether a table that they need is damaged
   lost-same : (font : List ℕ) (t : Table) → lost t ≡ isDamaged (handOut font t)
@@ -168,9 +169,11 @@ module _ (r16 r32 : Fields) (right : Right r16 r32) where
       rw (find-same font start 0x4F532F32 78, find-same font start 0x706F7374 32, find-same font start 0x68656164 54)
       (needed-same font start (findTable font start 0x4F532F32 78) (findTable font start 0x706F7374 32) (findTable font start 0x68656164 54) refl)
 
-  pub attributes-same : (font : List ℕ) (start : ℕ) → cond (losesBy r16 r32 font start) Lost (Stated (attributesBy r16 r32 font start)) ≡ readAttributes font start
+  pub attributes-same : (reading : ℕ) (font : List ℕ) (start : ℕ)
+      → cond (isReading reading) (cond (losesBy r16 r32 font start) (Refused 31) (Stated (attributesBy r16 r32 reading font start))) (Refused 25)
+      ≡ readAttributes reading font start
   unfolding readAttributes
-  attributes-same font start = rw (loses-same font start, tables-same font start)
+  attributes-same reading font start = rw (loses-same font start, tables-same reading font start)
 
   -- ---- axes
   count-in-same : (fvar : List ℕ) → 16 ≤ length fvar → present fvar ≡ true → countInBy r16 r32 fvar ≡ axisCount fvar
@@ -289,9 +292,9 @@ module _ (r16 r32 : Fields) (right : Right r16 r32) where
   unfolding refusalAtBy refusalAt
   at-same font start = rw (fits-same font start, loses-same font start, charmap-same font start, count-of-same font start)
 
-  face-same : (font : List ℕ) (start : ℕ) → faceBy r16 r32 font start ≡ faceOf font start
+  face-same : (reading : ℕ) (font : List ℕ) (start : ℕ) → faceBy r16 r32 reading font start ≡ faceOf reading font start
   unfolding faceBy faceOf
-  face-same font start = rw (tables-same font start, axes-of-same font start, count-of-same font start, charmap-same font start)
+  face-same reading font start = rw (tables-same reading font start, axes-of-same font start, count-of-same font start, charmap-same font start)
 
   -- ---- the fonts of a file
   module _ (font : List ℕ) (header : headerFits font ≡ true) where
@@ -312,22 +315,34 @@ module _ (r16 r32 : Fields) (right : Right r16 r32) where
         go false b e = refl
 
   -- which font is refused, and by which number
-  pub font-same : (font : List ℕ) (number : ℕ) → fontBy r16 r32 font number ≡ fromFontRef font number
-  unfolding fontBy fromFontRef checkedBy refusalBy fontRefusal fontStart headerFits
-  font-same font number = go (leb 12 (length font)) refl
+  pub font-same : (reading : ℕ) (font : List ℕ) (number : ℕ) → fontBy r16 r32 reading font number ≡ fromFontRef reading font number
+  unfolding fontBy underBy fromFontRef checkedBy refusalUnder refusalBy fontRefusal fontStart headerFits
+  font-same reading font number = go (leb 12 (length font)) refl
     where
       face : ℕ → FontInfo → Checked
-      face refusal f = record { refusal = refusal; font = cond (eqb refusal 0) f emptyFont }
+      face refusal f =
+          record {
+            refusal = cond (isReading reading) refusal 25;
+            font = cond (eqb (cond (isReading reading) refusal 25) 0) f emptyFont;
+          }
+
+      -- beside a refusal it is no matter what the face is
+      refused : (n : ℕ) (f g : FontInfo) → eqb n 0 ≡ false → face n f ≡ face n g
+      refused n f g e = ap (λ (x : FontInfo). record { refusal = cond (isReading reading) n 25; font = x }) (either (isReading reading))
+        where
+          either : (b : Bool) → cond (eqb (cond b n 25) 0) f emptyFont ≡ cond (eqb (cond b n 25) 0) g emptyFont
+          either true = rw e
+          either false = refl
 
       below : (b : Bool) → ltb number (fontCount font) ≡ b → leb 12 (length font) ≡ true
-          → face (cond b (refusalAtBy r16 r32 font (startBy r16 r32 font number)) 30) (faceBy r16 r32 font (startBy r16 r32 font number))
-          ≡ face (cond b (refusalAt font (cond b (offsetOf font number) (length font))) 30) (faceOf font (cond b (offsetOf font number) (length font)))
+          → face (cond b (refusalAtBy r16 r32 font (startBy r16 r32 font number)) 30) (faceBy r16 r32 reading font (startBy r16 r32 font number))
+          ≡ face (cond b (refusalAt font (cond b (offsetOf font number) (length font))) 30) (faceOf reading font (cond b (offsetOf font number) (length font)))
       below true e h =
-          rw (offset-same font h number (ltb-true number (fontCount font) e), at-same font (offsetOf font number), face-same font (offsetOf font number))
-      below false e h = refl
+          rw (offset-same font h number (ltb-true number (fontCount font) e), at-same font (offsetOf font number), face-same reading font (offsetOf font number))
+      below false e h = refused 30 _ _ refl
 
       go : (b : Bool) → leb 12 (length font) ≡ b
-          → face (cond b (cond (ltb number (countBy r16 r32 font)) (refusalAtBy r16 r32 font (startBy r16 r32 font number)) 30) 21) (faceBy r16 r32 font (startBy r16 r32 font number))
-          ≡ face (cond b (cond (ltb number (fontCount font)) (refusalAt font (fontStart font number)) 30) 21) (faceOf font (fontStart font number))
+          → face (cond b (cond (ltb number (countBy r16 r32 font)) (refusalAtBy r16 r32 font (startBy r16 r32 font number)) 30) 21) (faceBy r16 r32 reading font (startBy r16 r32 font number))
+          ≡ face (cond b (cond (ltb number (fontCount font)) (refusalAt font (fontStart font number)) 30) 21) (faceOf reading font (fontStart font number))
       go true h = rw (fonts-same font h) (below (ltb number (fontCount font)) refl h)
-      go false h = refl
+      go false h = refused 21 _ _ refl

@@ -7,7 +7,7 @@ use native.Mathlib.Nat.{div-one}
 use lib.ListN.{length, getD, List·getD-map, List·getD-eq-default}
 use lib.Dec.{eqb}
 use lib.Ieee.{nan}
-use Rattle.font.specs.Reading.{bit, thousandths, classWidths, widthOfClass}
+use Rattle.font.specs.StatedAttributes.{bit, thousandths, classWidths, widthOfClass}
 
 -- what stands past the end of a list is not read within it
 inside {ℓ} : {A : Type ℓ} (l : List A) (n : ℕ) (d e : A) → n < length l → getD l n d ≡ getD l n e

@@ -14,7 +14,7 @@ use Rattle.font.specs.declared.tables.Table.{Table}
 use Rattle.font.specs.declared.tables.Table.the-variants.{Absent, Damaged, Found}
 use Rattle.font.specs.Tables.{u16At, directoryFits, findTable, partOf, Handed, no-table, damaged-table, found-table, handOut, handedTable, bytesOf}
 use Rattle.font.specs.Charmap.{liesIn, pairClass, qualifies}
-use Rattle.font.specs.Reading.{present}
+use Rattle.font.specs.StatedAttributes.{present}
 use Rattle.font.specs.Font.{axisCount}
 use Rattle.font.specs.LookedAt.{Agree, Alike, absent, damaged, found, AxesAlike, no-axes, with-axes, Keeps, RecordsAlike, cutTo, CutAxes, cut, left-out, CutRecords, Five, os2, post, head, fvar, cmap, SameTables, EqualTables, CutTables, SameReading}
 use Rattle.font.proofs.Lookup.{long}

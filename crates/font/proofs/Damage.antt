@@ -12,7 +12,7 @@ use Rattle.font.specs.declared.tables.Table.the-variants.{Absent, Damage
 use Rattle.font.specs.Tables.{u16At, directoryFits, findTable, partOf, handOut, handedTable, isDamaged}
 use Rattle.font.specs.Collection.{headerFits, fontCount, offsetOf, fontStart}
 use Rattle.font.specs.Charmap.{charmapIndex}
-use Rattle.font.specs.Reading.{bit, needsPost, neededDamaged, losesNeeded}
+use Rattle.font.specs.StatedAttributes.{bit, needsPost, neededDamaged, losesNeeded}
 use Rattle.font.specs.Font.{fvarOf, axisCount, hasIndex, refusalAt, fontRefusal}
 use Rattle.font.specs.Damage.{Loses, os2, head, post, LosesNumbered}
 use Rattle.font.proofs.Lookup.{past-file, records-inside}

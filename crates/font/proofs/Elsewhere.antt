@@ -87,16 +87,16 @@ module _ (f g : List ℕ) (start : ℕ) (fits : directoryFits f start ≡ true) 
           go Damaged e = refl
           go (Found o n) e = ap (indexOf o) (bytes 0x636D6170 4 o n cmap e)
 
-      pub font-kept : checkedAt f start ≡ checkedAt g start
+      pub font-kept : (reading : ℕ) → checkedAt reading f start ≡ checkedAt reading g start
       unfolding checkedAt checkedBy faceOf
-      font-kept =
+      font-kept reading =
           let r = read-equal f start g start fits-same (all-equal (handedTable f start) (handedTable g start) handed-same) in
-          rw (r .refusal, r .from-tables, r .axes, r .axis-count, index-same)
+          rw (r .refusal, r .from-tables reading, r .axes, r .axis-count, index-same)
 
 -- another byte at k, past the directory and outside the five tables, in the font whose directory begins at `start`
 pub byte-changed : (f : List ℕ) (start k b : ℕ) → directoryFits f start ≡ true → start + 12 + 16 * recordCount f start ≤ k
     → ((tag least o n : ℕ) → Five tag least → findTable f start tag least ≡ Found o n → (k < o) ⊎ (o + n ≤ k))
-    → checkedAt f start ≡ checkedAt (set f k b) start
+    → (reading : ℕ) → checkedAt reading f start ≡ checkedAt reading (set f k b) start
 byte-changed f start k b fits past outside =
     font-kept f (set f k b) start fits
     (record { in-first = records-inside f start fits; in-second = rw length-set (records-inside f start fits); same = sym (take-set-le (start + 12 + 16 * recordCount f start) f k b past) })
@@ -112,7 +112,7 @@ byte-changed f start k b fits past outside =
 -- more bytes at the end, where none of the five reaches past the file
 pub appended : (f more : List ℕ) (start : ℕ) → directoryFits f start ≡ true
     → ((tag least : ℕ) → Five tag least → firstRecord f start tag < recordCount f start → endOf f start tag ≤ length f)
-    → checkedAt f start ≡ checkedAt (f ++ more) start
+    → (reading : ℕ) → checkedAt reading f start ≡ checkedAt reading (f ++ more) start
 appended f more start fits inside =
     font-kept f (f ++ more) start fits
     (record { in-first = records-inside f start fits; in-second = longer (records-inside f start fits); same = sym (take-append-le (start + 12 + 16 * recordCount f start) f more (records-inside f start fits)) })

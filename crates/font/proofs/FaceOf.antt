@@ -5,15 +5,16 @@ use mathlib.Core.Bool.{Bool, true, false, cond}
 use mathlib.Core.List.{List}
 use native.Mathlib.Omega.{arith}
 use lib.Dec.{leb, ltb, eqb}
-use borrow.Author.Tests.{leb-true, lt-ltb, ltb-true, eq-eqb, ne-eqb}
+use borrow.Author.Tests.{leb-true, lt-ltb, ltb-true, eq-eqb, ne-eqb, eqb-true, eqb-false}
 use Rattle.font.specs.declared.font.AxisInfo.{AxisInfo}
 use Rattle.font.specs.declared.font.FontInfo.{FontInfo}
 use Rattle.font.specs.Tables.{tableData, directoryFits}
 use Rattle.font.specs.Collection.{headerFits, fontCount, fontStart}
 use Rattle.font.specs.Charmap.{charmapIndex}
-use Rattle.font.specs.Reading.{fromTables, losesNeeded}
-use Rattle.font.specs.Font.{fvarOf, axisCount, axisAt, noAxis, axesOf, hasIndex, faceOf, emptyFont, refusalAt, fontRefusal, checkedBy, fromFontRef, statesAxis}
+use Rattle.font.specs.StatedAttributes.{fromTables, losesNeeded}
+use Rattle.font.specs.Font.{fvarOf, axisCount, axisAt, noAxis, axesOf, hasIndex, faceOf, emptyFont, refusalAt, fontRefusal, refusalUnder, checkedBy, fromFontRef, statesAxis}
 use Rattle.font.specs.Overrides.{axisOf, firstAxis}
+use Rattle.font.specs.Slant.{isReading}
 use Rattle.font.proofs.First.{first-same}
 use Rattle.font.proofs.Tabulated.{element}
 
@@ -126,59 +127,70 @@ few-read font n start count fvar z s f e = rw (e, f, s) (few-stated font n z)
 pub fits-stated : (font : List ℕ) (n : ℕ) → fontRefusal font n ≡ 0 → directoryFits font (fontStart font n) ≡ true
 fits-stated font n z = sound font (fontStart font n) (taken font n z .at-start) .fits
 
+-- ---- under a reading
+
+-- none is refused by the reading
+pub under-reading : (reading : ℕ) (font : List ℕ) (n : ℕ) → isReading reading ≡ true → refusalUnder reading font n ≡ fontRefusal font n
+unfolding refusalUnder
+under-reading reading font n k = rw k
+
+-- one that is not refused has a reading, and is not refused by the font's own rows
+pub taken-under : (reading : ℕ) (font : List ℕ) (n : ℕ) → refusalUnder reading font n ≡ 0 → (isReading reading ≡ true) × (fontRefusal font n ≡ 0)
+unfolding refusalUnder
+taken-under reading font n = go (isReading reading) refl
+  where
+    go : (b : Bool) → isReading reading ≡ b → _≡_ {A = ℕ} (cond b (fontRefusal font n) 25) 0 → (isReading reading ≡ true) × (fontRefusal font n ≡ 0)
+    go true e z = (e, z)
+    go false e z = absurd (omega arith)
+
 -- ---- the face
 
-pub accepted-face : (font : List ℕ) (n : ℕ) → fontRefusal font n ≡ 0 → fromFontRef font n .font ≡ faceOf font (fontStart font n)
-unfolding fromFontRef checkedBy
-accepted-face font n z = simp (eq-eqb (fontRefusal font n) 0 z)
+module _ (reading : ℕ) (font : List ℕ) (n : ℕ) where
+  pub accepted-face : refusalUnder reading font n ≡ 0 → fromFontRef reading font n .font ≡ faceOf reading font (fontStart font n)
+  unfolding fromFontRef checkedBy
+  accepted-face z = simp (eq-eqb (refusalUnder reading font n) 0 z)
 
-refused-face : (font : List ℕ) (n : ℕ) → (fontRefusal font n ≡ 0 → ⊥) → fromFontRef font n .font ≡ emptyFont
-unfolding fromFontRef checkedBy
-refused-face font n h = simp (ne-eqb (fontRefusal font n) 0 h)
+  refused-face : (refusalUnder reading font n ≡ 0 → ⊥) → fromFontRef reading font n .font ≡ emptyFont
+  unfolding fromFontRef checkedBy
+  refused-face h = simp (ne-eqb (refusalUnder reading font n) 0 h)
 
--- what holds of the empty face and of the face of each font that is not refused holds of every face that is read
-pub each-face : (P : FontInfo → Type 0) (font : List ℕ) (n : ℕ) → P emptyFont → (fontRefusal font n ≡ 0 → P (faceOf font (fontStart font n)))
-    → P (fromFontRef font n .font)
-each-face P font n e h = go (refusal-one-of font n)
-  where
-    refused : (fontRefusal font n ≡ 0 → ⊥) → P (fromFontRef font n .font)
-    refused r = rw (refused-face font n r) e
+  -- what holds of the empty face and of the face of each font that is not refused holds of every face that is read
+  pub each-face : (P : FontInfo → Type 0) → P emptyFont → (refusalUnder reading font n ≡ 0 → P (faceOf reading font (fontStart font n)))
+      → P (fromFontRef reading font n .font)
+  each-face P e h = go (eqb (refusalUnder reading font n) 0) refl
+    where
+      go : (b : Bool) → eqb (refusalUnder reading font n) 0 ≡ b → P (fromFontRef reading font n .font)
+      go true t = let z = eqb-true (refusalUnder reading font n) 0 t in rw (accepted-face z) (h z)
+      go false t = rw (refused-face (eqb-false (refusalUnder reading font n) 0 t)) e
 
-    go : OneOf (fontRefusal font n) → P (fromFontRef font n .font)
-    go (accepted z) = rw (accepted-face font n z) (h z)
-    go (directory z) = refused (λ r. omega arith)
-    go (charmap z) = refused (λ r. omega arith)
-    go (axes z) = refused (λ r. omega arith)
-    go (number z) = refused (λ r. omega arith)
-    go (damage z) = refused (λ r. omega arith)
+  pub attributes-of-face : refusalUnder reading font n ≡ 0 → fromTables reading font (fontStart font n) ≡ fromFontRef reading font n .font .attributes
+  unfolding faceOf
+  attributes-of-face z = ap (λ (f : FontInfo). f .attributes) (sym (accepted-face z))
 
-pub attributes-of-face : (font : List ℕ) (n : ℕ) → fontRefusal font n ≡ 0 → fromTables font (fontStart font n) ≡ fromFontRef font n .font .attributes
-unfolding faceOf
-attributes-of-face font n z = ap (λ (f : FontInfo). f .attributes) (sym (accepted-face font n z))
+  -- ---- its axes
 
--- ---- its axes
-
--- a font gives at most 16 axes
-pub few-axes : (font : List ℕ) (n : ℕ) → fromFontRef font n .font .«axis_count» ≤ 16
-unfolding emptyFont faceOf
-few-axes font n = each-face (λ f. f .«axis_count» ≤ 16) font n (omega arith) (few-stated font n)
+  -- a font gives at most 16 axes
+  pub few-axes : fromFontRef reading font n .font .«axis_count» ≤ 16
+  unfolding emptyFont faceOf
+  few-axes = each-face (λ f. f .«axis_count» ≤ 16) (omega arith) (λ z. few-stated font n (taken-under reading font n z .1))
 
 pub axis-there : (fvar : List ℕ) (n i : ℕ) → i < n → n ≤ 16 → axisOf (axesOf fvar n) i ≡ axisAt fvar i
 unfolding axisOf axesOf
 axis-there fvar n i l few = element (λ j. cond (ltb j n) (axisAt fvar j) noAxis) 16 i _ (omega arith) ∙ rw (lt-ltb i n l)
 
-of-face : (font : List ℕ) (start tag : ℕ) → axisCount (fvarOf font start) ≤ 16
-    → statesAxis font start tag ≡ ltb (firstAxis (faceOf font start .axes) (faceOf font start .«axis_count») tag) (faceOf font start .«axis_count»)
+of-face : (reading : ℕ) (font : List ℕ) (start tag : ℕ) → axisCount (fvarOf font start) ≤ 16
+    → statesAxis font start tag
+    ≡ ltb (firstAxis (faceOf reading font start .axes) (faceOf reading font start .«axis_count») tag) (faceOf reading font start .«axis_count»)
 unfolding statesAxis firstAxis faceOf
-of-face font start tag few =
+of-face reading font start tag few =
     ap (λ (k : ℕ). ltb k (axisCount (fvarOf font start)))
     (first-same (λ i. eqb (axisAt (fvarOf font start) i .tag) tag) (λ i. eqb (axisOf (axesOf (fvarOf font start) (axisCount (fvarOf font start))) i .tag) tag)
     (axisCount (fvarOf font start)) (λ i l. ap (λ (a : AxisInfo). eqb (a .tag) tag) (sym (axis-there (fvarOf font start) (axisCount (fvarOf font start)) i l few))))
 
 -- the axes that a font states are those of its face
-pub stated : (font : List ℕ) (n tag : ℕ) → fontRefusal font n ≡ 0
+pub stated : (reading : ℕ) (font : List ℕ) (n tag : ℕ) → refusalUnder reading font n ≡ 0
     → statesAxis font (fontStart font n) tag
-    ≡ ltb (firstAxis (fromFontRef font n .font .axes) (fromFontRef font n .font .«axis_count») tag) (fromFontRef font n .font .«axis_count»)
-stated font n tag z =
-    of-face font (fontStart font n) tag (few-stated font n z)
-    ∙ ap (λ (f : FontInfo). ltb (firstAxis (f .axes) (f .«axis_count») tag) (f .«axis_count»)) (sym (accepted-face font n z))
+    ≡ ltb (firstAxis (fromFontRef reading font n .font .axes) (fromFontRef reading font n .font .«axis_count») tag) (fromFontRef reading font n .font .«axis_count»)
+stated reading font n tag z =
+    of-face reading font (fontStart font n) tag (few-stated font n (taken-under reading font n z .1))
+    ∙ ap (λ (f : FontInfo). ltb (firstAxis (f .axes) (f .«axis_count») tag) (f .«axis_count»)) (sym (accepted-face reading font n z))

@@ -20,9 +20,10 @@ use Rattle.font.specs.declared.tables.Table.the-variants.{Absent, Damage
 use Rattle.font.specs.First.{first, some, leastBelow, firstLeast, tabulate}
 use Rattle.font.specs.Single.{single, fixedToSingle}
 use Rattle.font.specs.Attributes.{attributesOf, defaultAttributes}
+use Rattle.font.specs.Slant.{isReading, slantUnder}
 use Rattle.font.specs.Tables.{startsAsFont}
 use Rattle.font.specs.Charmap.{classOf}
-use Rattle.font.specs.Reading.{bit, widthOfClass, headStyle, headWeight}
+use Rattle.font.specs.StatedAttributes.{bit, widthOfClass, headStyle, headWeight}
 use Rattle.font.specs.Font.{noAxis, hasIndex, indexOr, noIndex, emptyFont}
 
 abbrev pub Fields : Type 0
@@ -65,10 +66,10 @@ module _ (r16 r32 : Fields) where
       cond (fitsBy font start && ltb (recordBy font start tag) (r16 font (start + 4))) (tableBy font start least (recordBy font start tag)) Absent
 
   -- ---- attributes
-  unfoldable pub angleBy : List ℕ → Table → Angle
-  angleBy font Absent = Unstated
-  angleBy font Damaged = Unstated
-  angleBy font (Found offset len) = Degrees (fixedToSingle (r32 (bytesAt font offset len) 4))
+  unfoldable pub angleBy : ℕ → List ℕ → Table → Angle
+  angleBy reading font Absent = Unstated
+  angleBy reading font Damaged = Unstated
+  angleBy reading font (Found offset len) = Degrees (slantUnder reading (fixedToSingle (r32 (bytesAt font offset len) 4)))
 
   unfoldable pub os2By : List ℕ → Angle → Attributes
   os2By os2 angle =
@@ -86,13 +87,13 @@ module _ (r16 r32 : Fields) where
   withoutBy font Absent = defaultAttributes
 
   -- from OS/2, `post` and `head`
-  unfoldable pub statedBy : List ℕ → Table → Table → Table → Attributes
-  statedBy font (Found offset len) post head = os2By (bytesAt font offset len) (angleBy font post)
-  statedBy font Damaged post head = withoutBy font head
-  statedBy font Absent post head = withoutBy font head
+  unfoldable pub statedBy : ℕ → List ℕ → Table → Table → Table → Attributes
+  statedBy reading font (Found offset len) post head = os2By (bytesAt font offset len) (angleBy reading font post)
+  statedBy reading font Damaged post head = withoutBy font head
+  statedBy reading font Absent post head = withoutBy font head
 
-  unfoldable pub attributesBy : List ℕ → ℕ → Attributes
-  attributesBy font start = statedBy font (findBy font start 0x4F532F32 78) (findBy font start 0x706F7374 32) (findBy font start 0x68656164 54)
+  unfoldable pub attributesBy : ℕ → List ℕ → ℕ → Attributes
+  attributesBy reading font start = statedBy reading font (findBy font start 0x4F532F32 78) (findBy font start 0x706F7374 32) (findBy font start 0x68656164 54)
 
   -- whether a table that they need is damaged
   unfoldable pub needsPostBy : List ℕ → Bool
@@ -176,15 +177,21 @@ module _ (r16 r32 : Fields) where
   refusalBy font number =
       cond (leb 12 (length font)) (cond (ltb number (countBy font)) (refusalAtBy font (startBy font number)) 30) 21
 
-  unfoldable pub faceBy : List ℕ → ℕ → FontInfo
-  faceBy font start =
+  unfoldable pub underBy : ℕ → List ℕ → ℕ → ℕ
+  underBy reading font number = cond (isReading reading) (refusalBy font number) 25
+
+  unfoldable pub faceBy : ℕ → List ℕ → ℕ → FontInfo
+  faceBy reading font start =
       record {
-        attributes = attributesBy font start;
+        attributes = attributesBy reading font start;
         axes = axesBy font (findBy font start 0x66766172 16);
         «axis_count» = axisCountBy font (findBy font start 0x66766172 16);
         «charmap_index» = indexOr noIndex (indexBy font (findBy font start 0x636D6170 4));
       }
 
-  unfoldable pub fontBy : List ℕ → ℕ → Checked
-  fontBy font number =
-      record { refusal = refusalBy font number; font = cond (eqb (refusalBy font number) 0) (faceBy font (startBy font number)) emptyFont }
+  unfoldable pub fontBy : ℕ → List ℕ → ℕ → Checked
+  fontBy reading font number =
+      record {
+        refusal = underBy reading font number;
+        font = cond (eqb (underBy reading font number) 0) (faceBy reading font (startBy font number)) emptyFont;
+      }

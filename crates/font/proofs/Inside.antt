@@ -46,10 +46,10 @@ index-inside font start i = go (findTable font start 0x636D6170 4) refl
         omega (arith, in-table o (take n (drop o font)) i h, long, w .inside)
 
 -- whether a font is refused or not, the offset of its charmap index is at most the file's length
-pub offset-inside : (font : List ℕ) (number : ℕ) → fromFontRef font number .font .«charmap_index» .«subtable_offset» ≤ length font
+pub offset-inside : (reading : ℕ) (font : List ℕ) (number : ℕ) → fromFontRef reading font number .font .«charmap_index» .«subtable_offset» ≤ length font
 unfolding emptyFont faceOf indexOr noIndex
-offset-inside font number =
-    each-face (λ f. f .«charmap_index» .«subtable_offset» ≤ length font) font number (omega arith) (λ z. go (charmapIndex font (fontStart font number)) refl)
+offset-inside reading font number =
+    each-face reading font number (λ f. f .«charmap_index» .«subtable_offset» ≤ length font) (omega arith) (λ z. go (charmapIndex font (fontStart font number)) refl)
   where
     go : (m : Charmap) → charmapIndex font (fontStart font number) ≡ m → indexOr noIndex m .«subtable_offset» ≤ length font
     go Missing e = omega arith

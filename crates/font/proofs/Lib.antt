@@ -16,6 +16,8 @@ pub mod Compare
 pub mod Order
 pub mod InOrder
 pub mod Percent
+-- The two readings of a slant.
+pub mod Opposites
 -- Section 2: font reading.
 pub mod Fields
 pub mod First
@@ -39,6 +41,7 @@ pub mod SameFonts
 pub mod Answers
 pub mod Damage
 pub mod Unmoved
+pub mod TwoReadings
 -- Section 3: overrides.
 pub mod Defaults
 pub mod Refusals

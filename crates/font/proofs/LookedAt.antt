@@ -21,8 +21,8 @@ use Rattle.font.specs.Attributes.{defaultAttributes}
 use Rattle.font.specs.Tables.{u16At, u32At, directoryFits, findTable, partOf, tableData, Handed, no-table, damaged-table, found-table, handOut, handedTable, bytesOf, isDamaged}
 use Rattle.font.specs.Collection.{fontStart}
 use Rattle.font.specs.Charmap.{subtableOffset, pairClass, qualifies, recordClass, someQualifies, bestClass, bestRecord, indexOf, indexIn, charmapIndex}
-use Rattle.font.specs.Reading.{present, postAngle, os2Style, fromOs2Post, fromHead, fromTables, needsPost, neededDamaged, losesNeeded, readAttributes}
-use Rattle.font.specs.Font.{fvarOf, axisCount, axisAt, noAxis, axesOf, hasIndex, indexOr, noIndex, refusalAt, fontRefusal, faceOf, emptyFont, checkedBy, fromFontRef, statesAxis}
+use Rattle.font.specs.StatedAttributes.{present, postAngle, os2Style, fromOs2Post, fromHead, fromTables, needsPost, neededDamaged, losesNeeded, readAttributes}
+use Rattle.font.specs.Font.{fvarOf, axisCount, axisAt, noAxis, axesOf, hasIndex, indexOr, noIndex, refusalAt, fontRefusal, refusalUnder, faceOf, emptyFont, checkedBy, fromFontRef, statesAxis}
 use Rattle.font.specs.LookedAt.{Agree, Alike, absent, damaged, found, AxesAlike, no-axes, with-axes, Keeps, RecordsAlike, SameTables, OfRecord, SameIndex, missing, of-record, SameReading, subtableAt}
 use Rattle.font.proofs.First.{first-same}
 use Rattle.font.proofs.Lookup.{handed-bytes}
@@ -52,19 +52,19 @@ module _ {n : ℕ} {s t : List ℕ} (a : Agree n s t) where
 -- ---- attributes
 
 -- what OS/2, `post` and `head` state
-unfoldable pub statedIn : List ℕ → List ℕ → List ℕ → Attributes
-statedIn os2 post head = cond (present os2) (fromOs2Post os2 post) (cond (present head) (fromHead head) defaultAttributes)
+unfoldable pub statedIn : ℕ → List ℕ → List ℕ → List ℕ → Attributes
+statedIn reading os2 post head = cond (present os2) (fromOs2Post reading os2 post) (cond (present head) (fromHead head) defaultAttributes)
 
-angle-same : {s t : Handed} → Alike 32 s t → postAngle (bytesOf s) ≡ postAngle (bytesOf t)
+angle-same : (reading : ℕ) {s t : Handed} → Alike 32 s t → postAngle reading (bytesOf s) ≡ postAngle reading (bytesOf t)
 unfolding postAngle bytesOf
-angle-same absent = refl
-angle-same damaged = refl
-angle-same (found a) = let p = both-present a (omega arith) in rw (p .0, p .1, field32 a 4 (omega arith))
+angle-same reading absent = refl
+angle-same reading damaged = refl
+angle-same reading (found a) = let p = both-present a (omega arith) in rw (p .0, p .1, field32 a 4 (omega arith))
 
-os2-same : {os2 os2' : List ℕ} {post post' : Handed} → Agree 78 os2 os2' → Alike 32 post post'
-    → fromOs2Post os2 (bytesOf post) ≡ fromOs2Post os2' (bytesOf post')
+os2-same : (reading : ℕ) {os2 os2' : List ℕ} {post post' : Handed} → Agree 78 os2 os2' → Alike 32 post post'
+    → fromOs2Post reading os2 (bytesOf post) ≡ fromOs2Post reading os2' (bytesOf post')
 unfolding fromOs2Post os2Style
-os2-same a p = rw (field16 a 4 (omega arith), field16 a 6 (omega arith), field16 a 62 (omega arith), angle-same p)
+os2-same reading a p = rw (field16 a 4 (omega arith), field16 a 6 (omega arith), field16 a 62 (omega arith), angle-same reading p)
 
 head-same : {s t : List ℕ} → Agree 54 s t → fromHead s ≡ fromHead t
 unfolding fromHead
@@ -78,12 +78,12 @@ without-os2 absent = refl
 without-os2 damaged = refl
 without-os2 (found a) = let p = both-present a (omega arith) in rw (p .0, p .1, head-same a)
 
-pub stated-same : {os2 os2' post post' head head' : Handed} → Alike 78 os2 os2' → Alike 32 post post' → Alike 54 head head'
-    → statedIn (bytesOf os2) (bytesOf post) (bytesOf head) ≡ statedIn (bytesOf os2') (bytesOf post') (bytesOf head')
+pub stated-same : (reading : ℕ) {os2 os2' post post' head head' : Handed} → Alike 78 os2 os2' → Alike 32 post post' → Alike 54 head head'
+    → statedIn reading (bytesOf os2) (bytesOf post) (bytesOf head) ≡ statedIn reading (bytesOf os2') (bytesOf post') (bytesOf head')
 unfolding statedIn present bytesOf
-stated-same (found a) p h = let q = both-present a (omega arith) in rw (q .0, q .1, os2-same a p)
-stated-same damaged p h = without-os2 h
-stated-same absent p h = without-os2 h
+stated-same reading (found a) p h = let q = both-present a (omega arith) in rw (q .0, q .1, os2-same reading a p)
+stated-same reading damaged p h = without-os2 h
+stated-same reading absent p h = without-os2 h
 
 lost-same : {n : ℕ} {s t : Handed} → Alike n s t → isDamaged s ≡ isDamaged t
 unfolding isDamaged
@@ -213,11 +213,11 @@ index-same f a g b h = go (someQualifies (tableData f a 0x636D6170 4)) refl
 -- ---- the file
 
 module _ (f : List ℕ) (a : ℕ) (g : List ℕ) (b : ℕ) (h : SameTables (handedTable f a) (handedTable g b)) where
-  tables-same : fromTables f a ≡ fromTables g b
+  tables-same : (reading : ℕ) → fromTables reading f a ≡ fromTables reading g b
   unfolding fromTables statedIn
-  tables-same =
+  tables-same reading =
       rw (← handed-bytes f a 0x4F532F32 78, ← handed-bytes f a 0x706F7374 32, ← handed-bytes f a 0x68656164 54, ← handed-bytes g b 0x4F532F32 78, ← handed-bytes g b 0x706F7374 32, ← handed-bytes g b 0x68656164 54)
-      (stated-same (h .os2) (h .post) (h .head))
+      (stated-same reading (h .os2) (h .post) (h .head))
 
   loses-same : losesNeeded f a ≡ losesNeeded g b
   unfolding losesNeeded
@@ -233,7 +233,7 @@ module _ (f : List ℕ) (a : ℕ) (g : List ℕ) (b : ℕ) (h : SameTables (hand
   unfolding readAttributes fvarOf statesAxis refusalAt
   read-alike fits =
       record {
-        attributes = rw (loses-same, tables-same);
+        attributes = λ reading. rw (loses-same, tables-same reading);
         from-tables = tables-same;
         axis-count = count-same axes-alike;
         axes = axes-same axes-alike;
@@ -279,10 +279,10 @@ module _ (f : List ℕ) (a : ℕ) (g : List ℕ) (b : ℕ) (same-index : SameInd
 -- ---- the face
 
 -- but for where the subtable lies the faces are one
-at-same : (f : List ℕ) (a : ℕ) (g : List ℕ) (b : ℕ) → SameReading f a g b → (r : ℕ)
-    → checkedBy r f a .font ≡ subtableAt (checkedBy r f a .font .«charmap_index» .«subtable_offset») (checkedBy r g b .font)
+at-same : (f : List ℕ) (a : ℕ) (g : List ℕ) (b : ℕ) → SameReading f a g b → (r reading : ℕ)
+    → checkedBy r reading f a .font ≡ subtableAt (checkedBy r reading f a .font .«charmap_index» .«subtable_offset») (checkedBy r reading g b .font)
 unfolding checkedBy faceOf subtableAt emptyFont indexOr noIndex
-at-same f a g b h r = go (eqb r 0)
+at-same f a g b h r reading = go (eqb r 0)
   where
     at-index : SameIndex f a g b
         → indexOr noIndex (charmapIndex f a)
@@ -295,12 +295,14 @@ at-same f a g b h r = go (eqb r 0)
     at-index (of-record i symbol roman x y) = rw (x .index, y .index)
 
     go : (z : Bool)
-        → cond z (faceOf f a) emptyFont ≡ subtableAt (cond z (faceOf f a) emptyFont .«charmap_index» .«subtable_offset») (cond z (faceOf g b) emptyFont)
-    go true = rw (h .from-tables, h .axes, h .axis-count, at-index (h .index))
+        → cond z (faceOf reading f a) emptyFont
+        ≡ subtableAt (cond z (faceOf reading f a) emptyFont .«charmap_index» .«subtable_offset») (cond z (faceOf reading g b) emptyFont)
+    go true = rw (h .from-tables reading, h .axes, h .axis-count, at-index (h .index))
     go false = refl
 
 -- so are those of the fonts m of f and n of g, where the two are refused alike
 pub face-same : (f : List ℕ) (m : ℕ) (g : List ℕ) (n : ℕ) → fontRefusal f m ≡ fontRefusal g n → SameReading f (fontStart f m) g (fontStart g n)
-    → fromFontRef f m .font ≡ subtableAt (fromFontRef f m .font .«charmap_index» .«subtable_offset») (fromFontRef g n .font)
-unfolding fromFontRef
-face-same f m g n e h = rw e (at-same f (fontStart f m) g (fontStart g n) h (fontRefusal g n))
+    → (reading : ℕ)
+    → fromFontRef reading f m .font ≡ subtableAt (fromFontRef reading f m .font .«charmap_index» .«subtable_offset») (fromFontRef reading g n .font)
+unfolding fromFontRef refusalUnder
+face-same f m g n e h reading = rw e (at-same f (fontStart f m) g (fontStart g n) h (refusalUnder reading g n) reading)

@@ -7,7 +7,7 @@ use native.Mathlib.Nat.{add-sub-cancel-left}
 use lib.ListN.{take, drop}
 use Rattle.font.specs.declared.tables.Table.the-variants.{Absent, Damaged, Found}
 use Rattle.font.specs.Tables.{findTable, partOf, handOut, handedTable, isDamaged}
-use Rattle.font.specs.Reading.{needsPost, neededDamaged, losesNeeded}
+use Rattle.font.specs.StatedAttributes.{needsPost, neededDamaged, losesNeeded}
 
 module _ (font : List ℕ) (start : ℕ) where
   -- OS/2 is found, and its part of the file asks for `post` or not

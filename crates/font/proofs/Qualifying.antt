@@ -9,7 +9,7 @@ use Rattle.font.specs.declared.tables.Table.{Table}
 use Rattle.font.specs.declared.tables.Table.the-variants.{Absent, Damaged, Found}
 use Rattle.font.specs.Tables.{u16At, directoryFits, findTable, partOf}
 use Rattle.font.specs.Charmap.{qualifies, someQualifies, indexIn, charmapIndex, NoneQualifies}
-use Rattle.font.specs.Reading.{losesNeeded}
+use Rattle.font.specs.StatedAttributes.{losesNeeded}
 use Rattle.font.specs.Font.{fvarOf, axisCount, hasIndex, refusalAt}
 use Rattle.font.proofs.First.{some-fails, all-fail}
 use Rattle.font.proofs.Records.{table-has}

@@ -14,11 +14,11 @@ use Rattle.font.specs.First.{first, some, leastBelow, firstLeast}
 use Rattle.font.specs.Tables.{u16At, u32At, startsAsFont, recordCount, recordTag, recordOffset, recordLength, directoryFits, firstRecord, tableOfRecord, findTable, partOf, tableData, handOut, handedTable, bytesOf, isDamaged}
 use Rattle.font.specs.Collection.{isCollection, headerFits, fontCount, offsetsFit, offsetOf, fontStart}
 use Rattle.font.specs.Charmap.{isPair, classOf, subtableOffset, liesIn, pairClass, qualifies, recordClass, someQualifies, bestClass, bestRecord, indexOf, indexIn, charmapIndex}
-use Rattle.font.specs.Reading.{present, neededDamaged, losesNeeded}
-use Rattle.font.specs.Font.{fvarOf, axisCount, hasIndex, indexOr, refusalAt, fontRefusal, faceOf, fromFontRef}
+use Rattle.font.specs.StatedAttributes.{present, neededDamaged, losesNeeded}
+use Rattle.font.specs.Font.{fvarOf, axisCount, hasIndex, indexOr, refusalAt, fontRefusal, refusalUnder, faceOf, fromFontRef}
 use Rattle.font.specs.LookedAt.{Five, os2, post, head, fvar, cmap, SameIndex, missing, of-record, SameReading, SameFont, MovedWithCmap, ReadAlike}
 use Rattle.font.proofs.Lookup.{past-file, records-inside, handed-bytes}
-use Rattle.font.proofs.FaceOf.{refused-at, taken, accepted-face}
+use Rattle.font.proofs.FaceOf.{refused-at, taken, taken-under, accepted-face}
 use Rattle.font.proofs.LookedAt.{face-same}
 use Rattle.font.proofs.CutTables.{all-equal, read-equal}
 
@@ -53,32 +53,36 @@ has-one f start z e = go (directoryFits f start) (losesNeeded f start) (rw e at 
     go true false h = omega arith
     go false l h = omega arith
 
-index-of-face : (f : List ℕ) (m : ℕ) → fontRefusal f m ≡ 0 → (c : CharmapIndex) → charmapIndex f (fontStart f m) ≡ Index c
-    → fromFontRef f m .font .«charmap_index» ≡ c
+index-of-face : (reading : ℕ) (f : List ℕ) (m : ℕ) → refusalUnder reading f m ≡ 0 → (c : CharmapIndex) → charmapIndex f (fontStart f m) ≡ Index c
+    → fromFontRef reading f m .font .«charmap_index» ≡ c
 unfolding faceOf indexOr
-index-of-face f m z c e = ap (λ (x : FontInfo). x .«charmap_index») (accepted-face f m z) ∙ rw e
+index-of-face reading f m z c e = ap (λ (x : FontInfo). x .«charmap_index») (accepted-face reading f m z) ∙ rw e
 
 module _ (f : List ℕ) (m : ℕ) (g : List ℕ) (n : ℕ) (same : SameFont f m g n) where
   cmap-same : tableData f (fontStart f m) 0x636D6170 4 ≡ tableData g (fontStart g n) 0x636D6170 4
   cmap-same =
       sym (handed-bytes f (fontStart f m) 0x636D6170 4) ∙ same .tables .cmap ∙ handed-bytes g (fontStart g n) 0x636D6170 4
 
-  reading : SameReading f (fontStart f m) g (fontStart g n)
-  reading = read-equal f (fontStart f m) g (fontStart g n) (same .first-fits ∙ sym (same .second-fits)) (same .tables)
+  alike : SameReading f (fontStart f m) g (fontStart g n)
+  alike = read-equal f (fontStart f m) g (fontStart g n) (same .first-fits ∙ sym (same .second-fits)) (same .tables)
 
   refusal : fontRefusal f m ≡ fontRefusal g n
-  refusal = refused-as f m (same .first-fits) ∙ reading .refusal ∙ sym (refused-as g n (same .second-fits))
+  refusal = refused-as f m (same .first-fits) ∙ alike .refusal ∙ sym (refused-as g n (same .second-fits))
 
-  offset : fontRefusal f m ≡ 0
-      → MovedWithCmap f m g n (fromFontRef f m .font .«charmap_index» .«subtable_offset») (fromFontRef g n .font .«charmap_index» .«subtable_offset»)
-  offset z = go (reading .index)
+  refusal-under : (reading : ℕ) → refusalUnder reading f m ≡ refusalUnder reading g n
+  unfolding refusalUnder
+  refusal-under reading = rw refusal
+
+  offset : (reading : ℕ) → refusalUnder reading f m ≡ 0
+      → MovedWithCmap f m g n (fromFontRef reading f m .font .«charmap_index» .«subtable_offset») (fromFontRef reading g n .font .«charmap_index» .«subtable_offset»)
+  offset reading z = go (alike .index)
     where
       at : CharmapIndex → ℕ
       at c = c .«subtable_offset»
 
       go : SameIndex f (fontStart f m) g (fontStart g n)
-          → MovedWithCmap f m g n (fromFontRef f m .font .«charmap_index» .«subtable_offset») (fromFontRef g n .font .«charmap_index» .«subtable_offset»)
-      go (missing e h) = absurd (has-one f (fontStart f m) (taken f m z .at-start) e)
+          → MovedWithCmap f m g n (fromFontRef reading f m .font .«charmap_index» .«subtable_offset») (fromFontRef reading g n .font .«charmap_index» .«subtable_offset»)
+      go (missing e h) = absurd (has-one f (fontStart f m) (taken f m (taken-under reading f m z .1) .at-start) e)
       go (of-record i symbol roman x y) =
           record {
             first = x .offset;
@@ -89,14 +93,14 @@ module _ (f : List ℕ) (m : ℕ) (g : List ℕ) (n : ℕ) (same : SameFont f m 
             second-lies = y .lies;
             moved = omega (
               arith,
-              ap at (index-of-face f m z _ (x .index)),
-              ap at (index-of-face g n (sym refusal ∙ z) _ (y .index)),
+              ap at (index-of-face reading f m z _ (x .index)),
+              ap at (index-of-face reading g n (sym (refusal-under reading) ∙ z) _ (y .index)),
               ap (λ (t : List ℕ). subtableOffset t i) cmap-same,
             );
           }
 
   pub same-font : ReadAlike f m g n
-  same-font = record { reading = reading; refusal = refusal; face = face-same f m g n refusal reading; offset = offset }
+  same-font = record { alike = alike; refusal = refusal; face = face-same f m g n refusal alike; offset = offset }
 
 -- ---- an example: a font that has `cmap` alone, by itself and as the font 1 of a collection, where the directory stands after the table
 

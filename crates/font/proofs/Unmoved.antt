@@ -9,15 +9,16 @@ use borrow.Author.Tests.{lt-ltb}
 use Rattle.font.specs.declared.tables.Table.{Table}
 use Rattle.font.specs.declared.tables.Table.the-variants.{Absent, Damaged, Found}
 use Rattle.font.specs.declared.attributes.FontStyle.the-variants.{Normal}
-use Rattle.font.specs.declared.font.FontAttributes.the-variants.{Lost, Stated}
+use Rattle.font.specs.declared.font.FontAttributes.the-variants.{Refused, Stated}
 use Rattle.font.specs.First.{first, some}
 use Rattle.font.specs.Single.{single}
 use Rattle.font.specs.Attributes.{attributesOf}
+use Rattle.font.specs.Slant.{isReading}
 use Rattle.font.specs.Tables.{u16At, u32At, startsAsFont, recordCount, recordTag, recordOffset, recordLength, directoryFits, firstRecord, tableOfRecord, findTable, partOf, tableData, handOut, handedTable}
 use Rattle.font.specs.Collection.{isCollection, headerFits, fontCount, offsetOf, fontStart}
 use Rattle.font.specs.Charmap.{isPair, classOf, subtableOffset, liesIn, pairClass, qualifies, someQualifies, indexOf, indexIn, charmapIndex}
-use Rattle.font.specs.Reading.{present, bit, widthOfClass, os2Style, fromOs2Post, headStyle, headWeight, fromHead, fromTables, needsPost, neededDamaged, losesNeeded, readAttributes}
-use Rattle.font.specs.Font.{fvarOf, axisCount, axesOf, hasIndex, refusalAt, fontRefusal, faceOf, checkedBy, fromFontRef}
+use Rattle.font.specs.StatedAttributes.{present, bit, widthOfClass, os2Style, fromOs2Post, headStyle, headWeight, fromHead, fromTables, needsPost, neededDamaged, losesNeeded, readAttributes}
+use Rattle.font.specs.Font.{fvarOf, axisCount, axesOf, hasIndex, refusalAt, fontRefusal, refusalUnder, faceOf, checkedBy, fromFontRef}
 use Rattle.font.specs.Unmoved.{recordBefore, tableBefore, dataBefore, attributesBefore, fvarBefore, charmapBefore, refusalAtBefore, refusalBefore, faceBefore, fontBefore, After31, accepted, charmap, axes, Unmoved}
 use Rattle.font.proofs.Damage.{numbered-31, losing-31}
 
@@ -76,36 +77,37 @@ module _ (file : List ℕ) (start : ℕ) where
   unfolding charmapIndex charmapBefore
   charmap-same = forget-index file (findTable file start 0x636D6170 4) ∙ ap (indexIn file) (sym (lookup-forgets file start 0x636D6170 4))
 
-  pub from-tables-same : fromTables file start ≡ attributesBefore file start
+  pub from-tables-same : (reading : ℕ) → fromTables reading file start ≡ attributesBefore reading file start
   unfolding fromTables attributesBefore
-  from-tables-same = rw (data-same 0x4F532F32 78, data-same 0x706F7374 32, data-same 0x68656164 54)
+  from-tables-same reading = rw (data-same 0x4F532F32 78, data-same 0x706F7374 32, data-same 0x68656164 54)
 
-  pub face-same : faceOf file start ≡ faceBefore file start
+  pub face-same : (reading : ℕ) → faceOf reading file start ≡ faceBefore reading file start
   unfolding faceOf faceBefore
-  face-same = rw (from-tables-same, fvar-same, charmap-same)
+  face-same reading = rw (from-tables-same reading, fvar-same, charmap-same)
 
   refusal-same : losesNeeded file start ≡ false → refusalAt file start ≡ refusalAtBefore file start
   unfolding refusalAt refusalAtBefore
   refusal-same h = rw (h, fvar-same, charmap-same)
 
-  stated-same : losesNeeded file start ≡ false → readAttributes file start ≡ Stated (attributesBefore file start)
-  unfolding readAttributes
-  stated-same h = rw (h, from-tables-same)
+  module _ (reading : ℕ) (known : isReading reading ≡ true) where
+    stated-same : losesNeeded file start ≡ false → readAttributes reading file start ≡ Stated (attributesBefore reading file start)
+    unfolding readAttributes
+    stated-same h = rw (known, h, from-tables-same reading)
 
-  none-stated : losesNeeded file start ≡ true → readAttributes file start ≡ Lost
-  unfolding readAttributes
-  none-stated h = rw h
+    none-stated : losesNeeded file start ≡ true → readAttributes reading file start ≡ Refused 31
+    unfolding readAttributes
+    none-stated h = rw (known, h)
 
 -- ---- the font of a number
 
-module _ (file : List ℕ) (number : ℕ) where
+module _ (reading : ℕ) (known : isReading reading ≡ true) (file : List ℕ) (number : ℕ) where
   number-same : losesNeeded file (fontStart file number) ≡ false → fontRefusal file number ≡ refusalBefore file number
   unfolding fontRefusal refusalBefore
   number-same h = rw (refusal-same file (fontStart file number) h)
 
-  font-same : fontRefusal file number ≡ refusalBefore file number → fromFontRef file number ≡ fontBefore file number
-  unfolding fromFontRef checkedBy fontBefore
-  font-same e = rw (e, face-same file (fontStart file number))
+  font-same : fontRefusal file number ≡ refusalBefore file number → fromFontRef reading file number ≡ fontBefore reading file number
+  unfolding fromFontRef refusalUnder checkedBy fontBefore
+  font-same e = rw (known, e, face-same file (fontStart file number) reading)
 
   -- one that is refused by 31 has header, number and directory
   after-31 : fontRefusal file number ≡ 31 → After31 (refusalBefore file number)
@@ -127,16 +129,16 @@ module _ (file : List ℕ) (number : ℕ) where
       go true h = absurd (n (losing-31 file number h))
       go false h = number-same h
 
-  pub unmoved : Unmoved file number
+  pub unmoved : Unmoved reading file number
   unmoved =
       record {
         axis-count = ap axisCount (fvar-same file (fontStart file number));
         axes = ap (λ (fvar : List ℕ). axesOf fvar (axisCount fvar)) (fvar-same file (fontStart file number));
         charmap = charmap-same file (fontStart file number);
-        attributes = stated-same file (fontStart file number);
+        attributes = stated-same file (fontStart file number) reading known;
         refusal = number-same;
         font = λ h. font-same (number-same h);
-        lost = none-stated file (fontStart file number);
+        lost = none-stated file (fontStart file number) reading known;
         by-31 = losing-31 file number;
         after = after-31;
         same-number = unless-31;
@@ -165,13 +167,13 @@ whole = halfCopied ++ (0 ∷ 5 ∷ replicate 70 0)
 
 -- The whole font is bold. Half-copied it came out regular, and is refused now.
 pub record Example : Type 0 where
-  pub bold : readAttributes whole (fontStart whole 0) ≡ Stated (attributesOf (widthOfClass 5) Normal (single 700))
+  pub bold : readAttributes 0 whole (fontStart whole 0) ≡ Stated (attributesOf (widthOfClass 5) Normal (single 700))
   pub taken : fontRefusal whole 0 ≡ 0
   pub cut : findTable halfCopied (fontStart halfCopied 0) 0x4F532F32 78 ≡ Damaged
   pub refused : fontRefusal halfCopied 0 ≡ 31
   pub before : refusalBefore halfCopied 0 ≡ 0
-  pub regular : fontBefore halfCopied 0 .font .attributes ≡ attributesOf (single 1) Normal (single 400)
+  pub regular : fontBefore 0 halfCopied 0 .font .attributes ≡ attributesOf (single 1) Normal (single 400)
 
 pub example : Example
-unfolding whole halfCopied subtables directory isCollection headerFits fontCount offsetOf fontStart fontRefusal refusalAt directoryFits startsAsFont recordCount recordTag recordOffset recordLength firstRecord first tableOfRecord findTable partOf tableData handOut handedTable u16At u32At needsPost neededDamaged losesNeeded readAttributes fromTables present bit os2Style fromOs2Post headStyle headWeight fromHead hasIndex charmapIndex indexIn indexOf someQualifies some qualifies liesIn pairClass classOf isPair subtableOffset fvarOf axisCount recordBefore tableBefore dataBefore attributesBefore fvarBefore charmapBefore refusalAtBefore refusalBefore faceBefore fontBefore
+unfolding whole halfCopied subtables directory isReading isCollection headerFits fontCount offsetOf fontStart fontRefusal refusalAt directoryFits startsAsFont recordCount recordTag recordOffset recordLength firstRecord first tableOfRecord findTable partOf tableData handOut handedTable u16At u32At needsPost neededDamaged losesNeeded readAttributes fromTables present bit os2Style fromOs2Post headStyle headWeight fromHead hasIndex charmapIndex indexIn indexOf someQualifies some qualifies liesIn pairClass classOf isPair subtableOffset fvarOf axisCount recordBefore tableBefore dataBefore attributesBefore fvarBefore charmapBefore refusalAtBefore refusalBefore faceBefore fontBefore
 example = record { bold = refl; taken = refl; cut = refl; refused = refl; before = refl; regular = refl }

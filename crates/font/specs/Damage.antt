@@ -6,7 +6,7 @@ use mathlib.Core.List.{List}
 use Rattle.font.specs.declared.tables.Table.the-variants.{Absent, Damaged, Found}
 use Rattle.font.specs.Tables.{u16At, directoryFits, findTable, partOf}
 use Rattle.font.specs.Collection.{headerFits, fontCount, fontStart}
-use Rattle.font.specs.Reading.{bit}
+use Rattle.font.specs.StatedAttributes.{bit}
 
 -- Needed are OS/2 whenever it has a record; `head` only where OS/2 has none; and `post` only where OS/2 is found and makes the face oblique: bit 0 of its fsSelection
 -- is clear and bit 9 is set. A font loses what it needs where one of these is damaged:

@@ -14,10 +14,11 @@ use Rattle.font.specs.declared.font.Stated.{Stated}
 use Rattle.font.specs.First.{first, tabulate}
 use Rattle.font.specs.Single.{single, fixedToSingle}
 use Rattle.font.specs.Attributes.{defaultAttributes}
+use Rattle.font.specs.Slant.{isReading}
 use Rattle.font.specs.Tables.{u16At, u32At, tableData, directoryFits}
 use Rattle.font.specs.Collection.{headerFits, fontCount, fontStart}
 use Rattle.font.specs.Charmap.{charmapIndex}
-use Rattle.font.specs.Reading.{present, fromTables, losesNeeded}
+use Rattle.font.specs.StatedAttributes.{present, fromTables, losesNeeded}
 
 -- "`fvar`, at least 16 bytes"; "Damaged `fvar` still gives no axes"
 unfoldable pub fvarOf : List ℕ → ℕ → List ℕ
@@ -78,12 +79,16 @@ fontRefusal file number =
     (cond (ltb number (fontCount file)) (refusalAt file (fontStart file number)) 30)
     21
 
+-- under a reading: "another value is 25 .. first below the job". The font's own refusal is the same under every reading.
+unfoldable pub refusalUnder : ℕ → List ℕ → ℕ → ℕ
+refusalUnder reading file number = cond (isReading reading) (fontRefusal file number) 25
+
 -- ---- the face that a font file gives, where it is not refused
 
-unfoldable pub faceOf : List ℕ → ℕ → FontInfo
-faceOf file start =
+unfoldable pub faceOf : ℕ → List ℕ → ℕ → FontInfo
+faceOf reading file start =
     record {
-      attributes = fromTables file start;
+      attributes = fromTables reading file start;
       axes = axesOf (fvarOf file start) (axisCount (fvarOf file start));
       «axis_count» = axisCount (fvarOf file start);
       «charmap_index» = indexOr noIndex (charmapIndex file start);
@@ -95,15 +100,15 @@ emptyFont =
     record { attributes = defaultAttributes; axes = tabulate (λ i. noAxis) 16; «axis_count» = 0; «charmap_index» = noIndex }
 
 -- a refusal, or 0 and the face of the font whose directory begins at `start`
-unfoldable pub checkedBy : ℕ → List ℕ → ℕ → Checked
-checkedBy refusal file start = record { refusal = refusal; font = cond (eqb refusal 0) (faceOf file start) emptyFont }
+unfoldable pub checkedBy : ℕ → ℕ → List ℕ → ℕ → Checked
+checkedBy refusal reading file start = record { refusal = refusal; font = cond (eqb refusal 0) (faceOf reading file start) emptyFont }
 
-unfoldable pub checkedAt : List ℕ → ℕ → Checked
-checkedAt file start = checkedBy (refusalAt file start) file start
+unfoldable pub checkedAt : ℕ → List ℕ → ℕ → Checked
+checkedAt reading file start = checkedBy (refusalAt file start) reading file start
 
 -- of the font of a number
-unfoldable pub fromFontRef : List ℕ → ℕ → Checked
-fromFontRef file number = checkedBy (fontRefusal file number) file (fontStart file number)
+unfoldable pub fromFontRef : ℕ → List ℕ → ℕ → Checked
+fromFontRef reading file number = checkedBy (refusalUnder reading file number) reading file (fontStart file number)
 
 -- whether an axis with the tag is among those that a font gives
 unfoldable pub statesAxis : List ℕ → ℕ → ℕ → Bool
@@ -111,5 +116,5 @@ statesAxis file start tag =
     ltb (first (λ i. eqb (axisAt (fvarOf file start) i .tag) tag) (axisCount (fvarOf file start))) (axisCount (fvarOf file start))
 
 -- what the choice of a face looks at, of a font that is not refused
-unfoldable pub statedAt : List ℕ → ℕ → ℕ → Stated
-statedAt file start tag = record { attributes = fromTables file start; «has_axis» = statesAxis file start tag }
+unfoldable pub statedAt : ℕ → List ℕ → ℕ → ℕ → Stated
+statedAt reading file start tag = record { attributes = fromTables reading file start; «has_axis» = statesAxis file start tag }

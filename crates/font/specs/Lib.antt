@@ -3,16 +3,18 @@ pub mod First
 pub mod Single
 pub mod Nearest
 pub mod Attributes
+pub mod Slant
 pub mod Tables
 pub mod Collection
 pub mod Charmap
-pub mod Reading
+pub mod StatedAttributes
 pub mod Font
 pub mod Overrides
 -- As laws of these: section 3's sentence on pairs, what section 2 looks at in a file, what lookup's answers mean, what is lost with a damaged
--- table, and the reading before.
+-- table, font reading as it was before damage was told, and the two readings.
 pub mod Pairs
 pub mod LookedAt
 pub mod Answers
 pub mod Damage
 pub mod Unmoved
+pub mod TwoReadings

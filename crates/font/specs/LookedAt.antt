@@ -10,8 +10,8 @@ use Rattle.font.specs.declared.font.FontInfo.{FontInfo}
 use Rattle.font.specs.Tables.{u16At, directoryFits, findTable, tableData, Handed, no-table, damaged-table, found-table, handedTable, bytesOf}
 use Rattle.font.specs.Collection.{fontStart}
 use Rattle.font.specs.Charmap.{subtableOffset, liesIn, pairClass, qualifies, charmapIndex}
-use Rattle.font.specs.Reading.{fromTables, readAttributes}
-use Rattle.font.specs.Font.{fvarOf, axisCount, axesOf, refusalAt, fontRefusal, fromFontRef, statesAxis}
+use Rattle.font.specs.StatedAttributes.{fromTables, readAttributes}
+use Rattle.font.specs.Font.{fvarOf, axisCount, axesOf, refusalAt, fontRefusal, refusalUnder, fromFontRef, statesAxis}
 
 -- ---- tables that are alike
 
@@ -122,8 +122,8 @@ pub data SameIndex (f : List ℕ) (a : ℕ) (g : List ℕ) (b : ℕ) : Type 0 wh
   of-record : (i : ℕ) (symbol roman : Bool) → OfRecord f a i symbol roman → OfRecord g b i symbol roman → SameIndex f a g b
 
 pub record SameReading (f : List ℕ) (a : ℕ) (g : List ℕ) (b : ℕ) : Type 0 where
-  pub attributes : readAttributes f a ≡ readAttributes g b
-  pub from-tables : fromTables f a ≡ fromTables g b
+  pub attributes : (reading : ℕ) → readAttributes reading f a ≡ readAttributes reading g b
+  pub from-tables : (reading : ℕ) → fromTables reading f a ≡ fromTables reading g b
   pub axis-count : axisCount (fvarOf f a) ≡ axisCount (fvarOf g b)
   pub axes : axesOf (fvarOf f a) (axisCount (fvarOf f a)) ≡ axesOf (fvarOf g b) (axisCount (fvarOf g b))
   pub states : (tag : ℕ) → statesAxis f a tag ≡ statesAxis g b tag
@@ -165,8 +165,9 @@ pub record MovedWithCmap (f : List ℕ) (m : ℕ) (g : List ℕ) (n : ℕ) (x y 
 
 -- "as for a lone font with the same tables, save the `cmap` offset". Proved in proofs/SameFonts.antt.
 pub record ReadAlike (f : List ℕ) (m : ℕ) (g : List ℕ) (n : ℕ) : Type 0 where
-  pub reading : SameReading f (fontStart f m) g (fontStart g n)
+  pub alike : SameReading f (fontStart f m) g (fontStart g n)
   pub refusal : fontRefusal f m ≡ fontRefusal g n
-  pub face : fromFontRef f m .font ≡ subtableAt (fromFontRef f m .font .«charmap_index» .«subtable_offset») (fromFontRef g n .font)
-  pub offset : fontRefusal f m ≡ 0
-      → MovedWithCmap f m g n (fromFontRef f m .font .«charmap_index» .«subtable_offset») (fromFontRef g n .font .«charmap_index» .«subtable_offset»)
+  pub face : (reading : ℕ)
+      → fromFontRef reading f m .font ≡ subtableAt (fromFontRef reading f m .font .«charmap_index» .«subtable_offset») (fromFontRef reading g n .font)
+  pub offset : (reading : ℕ) → refusalUnder reading f m ≡ 0
+      → MovedWithCmap f m g n (fromFontRef reading f m .font .«charmap_index» .«subtable_offset») (fromFontRef reading g n .font .«charmap_index» .«subtable_offset»)

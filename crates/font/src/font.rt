@@ -4,11 +4,11 @@ ghost use mathlib.Core.Bool.{true, cond};
 ghost use Prim.Native.Nat.{_<_, _≤_};
 ghost use lib.Dec.{leb, eqb};
 ghost use Rattle.font.specs.First.{first};
-ghost use Rattle.font.specs.Reading.{widthOfClass, postAngle, os2Style, fromOs2Post, headStyle, headWeight, fromHead, fromTables, needsPost, losesNeeded, readAttributes};
+ghost use Rattle.font.specs.StatedAttributes.{widthOfClass, postAngle, os2Style, fromOs2Post, headStyle, headWeight, fromHead, fromTables, needsPost, losesNeeded, readAttributes};
 ghost use Rattle.font.specs.Tables.{u32At, directoryFits, tableData};
 ghost use Rattle.font.specs.Charmap.{charmapIndex};
 ghost use Rattle.font.specs.Collection.{fontStart};
-ghost use Rattle.font.specs.Font.{fvarOf, axisCount, axisAt, axesOf, noIndex, indexOr, emptyFont, refusalAt, fontRefusal, faceOf, fromFontRef, statesAxis, statedAt};
+ghost use Rattle.font.specs.Font.{fvarOf, axisCount, axisAt, axesOf, noIndex, indexOr, emptyFont, refusalAt, fontRefusal, refusalUnder, faceOf, fromFontRef, statesAxis, statedAt};
 use crate::attributes::Angle;
 use crate::attributes::Attributes;
 use crate::attributes::FontStyle;
@@ -21,6 +21,7 @@ use crate::collection::font_beginning;
 use crate::collection::font_count;
 use crate::collection::font_start;
 use crate::single;
+use crate::slant;
 use crate::tables;
 use crate::tables::Table;
 
@@ -67,9 +68,10 @@ pub struct Checked {
     pub font: FontInfo,
 }
 
-// What a font says of its attributes: that a table which they need is damaged, or the attributes.
+// What a font says of its attributes, or the number of the refusal: 25 for no reading, 31 where a table which they need is
+// damaged.
 pub enum FontAttributes {
-    Lost,
+    Refused(u8),
     Stated(Attributes),
 }
 
@@ -89,37 +91,39 @@ fn width_from_width_class(class: u16) -> FontWidth
     }
 }
 
-fn post_angle(post: &[u8]) -> Angle
-    ensures { λ r. ⌜ r ≡ postAngle (now (post .entry)) ⌝ }
+fn post_angle(post: &[u8], reading: u32) -> Angle
+    ensures { λ r. ⌜ r ≡ postAngle reading (now (post .entry)) ⌝ }
 {
     if 0 < post.len() {
-        Angle::Degrees(single::fixed_to_single(tables::u32_at(post, 4)))
+        let angle = single::fixed_to_single(tables::u32_at(post, 4));
+        Angle::Degrees(slant::slant_under(reading, angle))
     } else {
         Angle::Unstated
     }
 }
 
 // The `post` table is looked up for an oblique face alone.
-fn os2_style(file: &[u8], start: usize, os2: &[u8]) -> FontStyle
+fn os2_style(file: &[u8], reading: u32, start: usize, os2: &[u8]) -> FontStyle
     requires { ⌜ directoryFits (now file) start ≡ true ⌝ }
-    ensures { λ r. ⌜ r ≡ os2Style (now (os2 .entry)) (tableData (now (file .entry)) start 0x706F7374 32) ⌝ }
+    ensures { λ r. ⌜ r ≡ os2Style reading (now (os2 .entry)) (tableData (now (file .entry)) start 0x706F7374 32) ⌝ }
 {
     let selection = tables::u16_at(os2, 62);
     if selection % 2 == 1 {
         return FontStyle::Italic;
     }
     if selection / 512 % 2 == 1 {
-        return FontStyle::Oblique(post_angle(tables::data_in(file, start, POST, 32)));
+        let post = tables::data_in(file, start, POST, 32);
+        return FontStyle::Oblique(post_angle(post, reading));
     }
     FontStyle::Normal
 }
 
-fn from_os2_post(file: &[u8], start: usize, os2: &[u8]) -> Attributes
+fn from_os2_post(file: &[u8], reading: u32, start: usize, os2: &[u8]) -> Attributes
     requires { ⌜ directoryFits (now file) start ≡ true ⌝ }
-    ensures { λ r. ⌜ r ≡ fromOs2Post (now (os2 .entry)) (tableData (now (file .entry)) start 0x706F7374 32) ⌝ }
+    ensures { λ r. ⌜ r ≡ fromOs2Post reading (now (os2 .entry)) (tableData (now (file .entry)) start 0x706F7374 32) ⌝ }
 {
     let width = width_from_width_class(tables::u16_at(os2, 6));
-    let style = os2_style(file, start, os2);
+    let style = os2_style(file, reading, start, os2);
     let weight = FontWeight::new(tables::u16_at(os2, 4) as f32);
     Attributes::new(width, style, weight)
 }
@@ -154,13 +158,13 @@ fn from_head(head: &[u8]) -> Attributes
 }
 
 // The attributes by OS/2, else by `head`, else the defaults. Whether a table that they need is damaged is for `loses_needed` to say.
-fn from_tables(file: &[u8], start: usize) -> Attributes
+fn from_tables(file: &[u8], reading: u32, start: usize) -> Attributes
     requires { ⌜ directoryFits (now file) start ≡ true ⌝ }
-    ensures { λ r. ⌜ r ≡ fromTables (now (file .entry)) start ⌝ }
+    ensures { λ r. ⌜ r ≡ fromTables reading (now (file .entry)) start ⌝ }
 {
     let os2 = tables::data_in(file, start, OS2, 78);
     if 0 < os2.len() {
-        return from_os2_post(file, start, os2);
+        return from_os2_post(file, reading, start, os2);
     }
     let head = tables::data_in(file, start, HEAD, 54);
     if 0 < head.len() {
@@ -198,16 +202,19 @@ fn loses_needed(file: &[u8], start: usize) -> bool
     }
 }
 
-// The attributes that the font of a number states: OS/2's before `head`'s before the defaults; or that a table which they need is damaged.
-pub fn read_attributes(file: &[u8], number: u16) -> FontAttributes
-    ensures { λ r. ⌜ r ≡ readAttributes (now (file .entry)) (fontStart (now (file .entry)) number) ⌝ }
+// The attributes that the font of a number states under a reading: OS/2's before `head`'s before the defaults; or a refusal.
+pub fn read_attributes(file: &[u8], reading: u32, number: u16) -> FontAttributes
+    ensures { λ r. ⌜ r ≡ readAttributes reading (now (file .entry)) (fontStart (now (file .entry)) number) ⌝ }
 {
+    if !slant::is_reading(reading) {
+        return FontAttributes::Refused(25);
+    }
     let start = font_start(file, number);
     if tables::directory_fits(file, start) {
         if loses_needed(file, start) {
-            return FontAttributes::Lost;
+            return FontAttributes::Refused(31);
         }
-        return FontAttributes::Stated(from_tables(file, start));
+        return FontAttributes::Stated(from_tables(file, reading, start));
     }
     FontAttributes::Stated(Attributes::DEFAULT)
 }
@@ -268,13 +275,13 @@ impl FontInfo {
         },
     };
 
-    // The face of the font of a number, or the refusal 21, 22, 23, 30 or 31.
-    pub fn from_font_ref(file: &[u8], number: u16) -> Checked
-        ensures { λ r. ⌜ r ≡ fromFontRef (now (file .entry)) number ⌝ }
+    // The face of the font of a number under a reading, or the refusal 21, 22, 23, 25, 30 or 31.
+    pub fn from_font_ref(file: &[u8], reading: u32, number: u16) -> Checked
+        ensures { λ r. ⌜ r ≡ fromFontRef reading (now (file .entry)) number ⌝ }
     {
-        let refusal = font_refusal(file, number);
+        let refusal = refusal_under(file, reading, number);
         if refusal == 0 {
-            let font = read_font(file, number);
+            let font = read_font(file, reading, number);
             return Checked { refusal, font };
         }
         Checked {
@@ -300,14 +307,14 @@ fn index_or_none(file: &[u8], start: usize) -> CharmapIndex
 }
 
 // The face of the font of a number, which `font_refusal` does not refuse.
-pub fn read_font(file: &[u8], number: u16) -> FontInfo
+pub fn read_font(file: &[u8], reading: u32, number: u16) -> FontInfo
     requires { ⌜ fontRefusal (now file) number ≡ 0 ⌝ }
-    ensures { λ r. ⌜ r ≡ faceOf (now (file .entry)) (fontStart (now (file .entry)) number) ⌝ }
+    ensures { λ r. ⌜ r ≡ faceOf reading (now (file .entry)) (fontStart (now (file .entry)) number) ⌝ }
 {
     let start = font_start(file, number);
     let fvar = tables::data_in(file, start, FVAR, 16);
     let count = axis_count(fvar);
-    let attributes = from_tables(file, start);
+    let attributes = from_tables(file, reading, start);
     let axes = read_axes(fvar, count);
     let charmap_index = index_or_none(file, start);
     FontInfo {
@@ -347,7 +354,7 @@ fn refusal_at(file: &[u8], start: usize, version: u32) -> u8
     21
 }
 
-// The number with which `from_font_ref` refuses the font of a number, or 0. No other code of this crate says it.
+// The number with which the font of a number is refused under every reading, or 0. No other code of this crate says it.
 pub fn font_refusal(file: &[u8], number: u16) -> u8
     ensures { λ r. ⌜ r ≡ fontRefusal (now (file .entry)) number ⌝ }
 {
@@ -359,6 +366,16 @@ pub fn font_refusal(file: &[u8], number: u16) -> u8
         return refusal_at(file, font.start, font.version);
     }
     30
+}
+
+// The number with which `from_font_ref` refuses: 25 for no reading, and then the font's own.
+fn refusal_under(file: &[u8], reading: u32, number: u16) -> u8
+    ensures { λ r. ⌜ r ≡ refusalUnder reading (now (file .entry)) number ⌝ }
+{
+    if slant::is_reading(reading) {
+        return font_refusal(file, number);
+    }
+    25
 }
 
 // The first of `count` axis records with the tag, or the count where there is none.
@@ -388,12 +405,12 @@ fn states_axis(file: &[u8], start: usize, tag: u32) -> bool
 }
 
 // The attributes that the font of a number states, and whether it gives an axis with the tag. `font_refusal` does not refuse it.
-pub fn read_stated(file: &[u8], number: u16, tag: u32) -> Stated
+pub fn read_stated(file: &[u8], reading: u32, number: u16, tag: u32) -> Stated
     requires { ⌜ fontRefusal (now file) number ≡ 0 ⌝ }
-    ensures { λ r. ⌜ r ≡ statedAt (now (file .entry)) (fontStart (now (file .entry)) number) tag ⌝ }
+    ensures { λ r. ⌜ r ≡ statedAt reading (now (file .entry)) (fontStart (now (file .entry)) number) tag ⌝ }
 {
     let start = font_start(file, number);
-    let attributes = from_tables(file, start);
+    let attributes = from_tables(file, reading, start);
     let has_axis = states_axis(file, start, tag);
     Stated {
         attributes,

@@ -5,4 +5,5 @@ pub mod collection;
 pub mod font;
 pub mod overrides;
 pub mod single;
+pub mod slant;
 pub mod tables;

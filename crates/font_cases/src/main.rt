@@ -124,25 +124,26 @@ fn print_checked(checked: Checked) {
     io::write_all(STDOUT_FILENO, b"\n");
 }
 
-// The lines of a list: for each font a 32-bit length, the file, and the 16-bit number of the font in it. A font that is cut
-// off ends the list.
+// The lines of a list: for each font a 32-bit length, the file, a 32-bit reading, and the 16-bit number of the font in the
+// file. A font that is cut off ends the list.
 fn print_list(list: &[u8]) {
     let mut at: usize = 0;
     while at < list.len() {
         let start = at + 4;
         let end = start + tables::u32_at(list, at) as usize;
-        if list.len() < end + 2 {
+        if list.len() < end + 6 {
             return;
         }
-        let number = tables::u16_at(list, end);
-        print_checked(FontInfo::from_font_ref(&list[start..end], number));
-        at = end + 2;
+        let reading = tables::u32_at(list, end);
+        let number = tables::u16_at(list, end + 4);
+        print_checked(FontInfo::from_font_ref(&list[start..end], reading, number));
+        at = end + 6;
     }
 }
 
-// A list has at most 262,144 bytes: what lies past them is not read.
+// A list has at most 327,680 bytes: what lies past them is not read.
 fn main() {
-    let mut space = [0u8; 262144];
+    let mut space = [0u8; 327680];
     let n = io::read_full(STDIN_FILENO, &mut space);
     print_list(&space[..n]);
 }

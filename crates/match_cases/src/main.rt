@@ -1,5 +1,5 @@
 // Reads a list of families from standard input, and prints a line for each: the choice, the equal list, the default, and
-// the synthesis of the chosen face, or of the default face where none is chosen.
+// the synthesis of the chosen face, or of the default face where none is chosen: under reading 0, and after a bar under 1.
 //
 // The files `stdin` and `stdout` of this crate are what `cargo run --release -- families --out DIR` writes in
 // `rust/reference`: the list, and what the original sources answer on it. `rust/README.md` says what both hold, in
@@ -191,12 +191,14 @@ fn print_synthesis(synthesis: Synthesis) {
     words::print_settings(synthesis);
 }
 
-fn print_line(choice: Choice, list: Places, default: usize, synthesis: Synthesis) {
+fn print_line(choice: Choice, list: Places, default: usize, old: Synthesis, new: Synthesis) {
     let places = list.places;
     print_choice(choice);
     print_places(places, list.count);
     print_number(b' ', default);
-    print_synthesis(synthesis);
+    print_synthesis(old);
+    io::write_all(STDOUT_FILENO, b" |");
+    print_synthesis(new);
 }
 
 // Answers.
@@ -210,8 +212,13 @@ fn shown_place(choice: Choice, default: usize) -> usize {
     }
 }
 
-// The synthesis of that face.
-fn shown_synthesis(family: FamilyInfo, choice: Choice, request: Attributes) -> Synthesis {
+// The synthesis of that face under a reading.
+fn shown_synthesis(
+    family: FamilyInfo,
+    choice: Choice,
+    reading: u32,
+    request: Attributes,
+) -> Synthesis {
     let fetched = family.match_font(shown_place(choice, family.default_font));
     if fetched.refusal != 0 {
         return Synthesis::unvaried(fetched.refusal, false, 0);
@@ -220,7 +227,7 @@ fn shown_synthesis(family: FamilyInfo, choice: Choice, request: Attributes) -> S
     let width = request.width;
     let style = request.style;
     let weight = request.weight;
-    face::synthesis(font, width, style, weight)
+    face::synthesis(font, reading, width, style, weight)
 }
 
 // The first of three refusals that is one.
@@ -257,11 +264,12 @@ fn print_answers(fonts: [FontInfo; 64], count: usize, request: Attributes, synth
     );
     let made = FamilyInfo::new(fonts, count);
     let family = made.family;
-    let synthesis = shown_synthesis(family, choice, request);
-    let refusal = first_refusal(matches.refusal, made.refusal, synthesis.refusal);
+    let old = shown_synthesis(family, choice, 0, request);
+    let new = shown_synthesis(family, choice, 1, request);
+    let refusal = first_refusal(matches.refusal, made.refusal, old.refusal);
     if refusal == 0 {
         let list = matches.list;
-        print_line(choice, list, family.default_font, synthesis);
+        print_line(choice, list, family.default_font, old, new);
     } else {
         print_refused(refusal);
     }

@@ -17,3 +17,4 @@ pub mod Listed
 pub mod Tried
 pub mod Styles
 pub mod SettingValues
+pub mod TwoReadings

@@ -13,6 +13,7 @@ use lib.Seq.{getD-set-same, getD-set-other}
 use borrow.Author.Tests.{ltb-true}
 use Rattle.font.specs.Single.{single, orderKey, acceptedRatio}
 use Rattle.font.specs.Attributes.{acceptedAngle, acceptedStyle, acceptedAttributes}
+use Rattle.font.specs.Slant.{slantUnder}
 use Rattle.font.specs.declared.attributes.Angle.{Angle}
 use Rattle.font.specs.declared.attributes.Angle.the-variants.{Unstated, Degrees}
 use Rattle.font.specs.declared.attributes.FontStyle.{FontStyle}
@@ -25,6 +26,7 @@ use Rattle.matching.specs.declared.synthesis.Lean.the-variants.{Upright,
 use Rattle.matching.specs.declared.synthesis.Varies.{Varies}
 use Rattle.matching.specs.declared.synthesis.Synthesis.{Synthesis}
 use Rattle.matching.specs.Synthesis.{widthSetting, weightSetting, degreesOf, italicLean, leansRight, obliqueLean, leanOf, settingOf, unvaried, put, added, synthesized}
+use Rattle.font.proofs.Opposites.{slant-number}
 use Rattle.matching.proofs.Below.{clash, both}
 use Rattle.matching.proofs.Standings.{pick}
 
@@ -95,26 +97,31 @@ setting-plain Upright e = tt
 setting-plain (Varied tag value) e = e
 setting-plain (Skewed degrees) e = tt
 
-italic-leaning : (v : Varies) → Leaning (italicLean v)
+-- a slant is a number under every reading
+under-number : (reading : ℕ) (x : Float) → Number x → Number (slantUnder reading x)
+under-number reading x e = slant-number reading x ∙ e
+
+italic-leaning : (reading : ℕ) (v : Varies) → Leaning (italicLean reading v)
 unfolding italicLean
-italic-leaning v = pick Leaning (v .italic) (whole-number 1) (pick Leaning (v .slant) (whole-number 14) tt)
+italic-leaning reading v =
+    pick Leaning (v .italic) (whole-number 1) (pick Leaning (v .slant) (under-number reading (single 14) (whole-number 14)) tt)
 
 degrees-number : (a : Angle) → acceptedAngle a ≡ true → Number (degreesOf a)
 unfolding degreesOf acceptedAngle
 degrees-number Unstated e = whole-number 14
 degrees-number (Degrees x) e = finite-number x e
 
-oblique-leaning : (v : Varies) (d : Float) → Number d → Leaning (obliqueLean v d)
+oblique-leaning : (reading : ℕ) (v : Varies) (d : Float) → Number d → Leaning (obliqueLean reading v d)
 unfolding obliqueLean
-oblique-leaning v d e = pick Leaning (v .slant) e (pick Leaning (leansRight v d) (whole-number 1) tt)
+oblique-leaning reading v d e = pick Leaning (v .slant) (under-number reading d e) (pick Leaning (leansRight v d) (whole-number 1) tt)
 
-leaning : (v : Varies) (own wanted : FontStyle) → acceptedStyle wanted ≡ true → Leaning (leanOf v own wanted)
+leaning : (reading : ℕ) (v : Varies) (own wanted : FontStyle) → acceptedStyle wanted ≡ true → Leaning (leanOf reading v own wanted)
 unfolding leanOf acceptedStyle
-leaning v Normal Normal e = tt
-leaning v Normal Italic e = italic-leaning v
-leaning v Normal (Oblique a) e = oblique-leaning v (degreesOf a) (degrees-number a e)
-leaning v Italic w e = tt
-leaning v (Oblique b) w e = tt
+leaning reading v Normal Normal e = tt
+leaning reading v Normal Italic e = italic-leaning reading v
+leaning reading v Normal (Oblique a) e = oblique-leaning reading v (degreesOf a) (degrees-number a e)
+leaning reading v Italic w e = tt
+leaning reading v (Oblique b) w e = tt
 
 -- ---- the three slots
 
@@ -155,10 +162,10 @@ unvaried-slots bold skew = record { three = refl; within = omega arith; plain = 
     zeros (suc (suc zero)) l = whole-number 0
     zeros (suc (suc (suc i))) l = absurd (omega arith)
 
-pub setting-numbers : (own : Attributes) (v : Varies) (a : Attributes) → acceptedAttributes a ≡ true
-    → (i : ℕ) → i < synthesized own v a .len → isNan (getD (synthesized own v a .values) i nan) ≡ false
+pub setting-numbers : (reading : ℕ) (own : Attributes) (v : Varies) (a : Attributes) → acceptedAttributes a ≡ true
+    → (i : ℕ) → i < synthesized reading own v a .len → isNan (getD (synthesized reading own v a .values) i nan) ≡ false
 unfolding synthesized acceptedAttributes
-setting-numbers own v a e i l = slots .plain i (omega (arith, slots .within))
+setting-numbers reading own v a e i l = slots .plain i (omega (arith, slots .within))
   where
     parts : (acceptedRatio (a .width .ratio) && acceptedStyle (a .style) ≡ true) × (finite (a .weight .value) ≡ true)
     parts = both (acceptedRatio (a .width .ratio) && acceptedStyle (a .style)) (finite (a .weight .value)) e
@@ -166,10 +173,10 @@ setting-numbers own v a e i l = slots .plain i (omega (arith, slots .within))
     first : (acceptedRatio (a .width .ratio) ≡ true) × (acceptedStyle (a .style) ≡ true)
     first = both (acceptedRatio (a .width .ratio)) (acceptedStyle (a .style)) (parts .0)
 
-    slots : Slots (synthesized own v a)
+    slots : Slots (synthesized reading own v a)
     slots =
         added-slots _ _
         (added-slots _ _
         (added-slots _ _ (unvaried-slots _ _) (width-plain v (own .width .ratio) (a .width .ratio) (first .0)))
         (weight-plain v (a .weight .value) (parts .1)))
-        (setting-plain _ (leaning v (own .style) (a .style) (first .1)))
+        (setting-plain _ (leaning reading v (own .style) (a .style) (first .1)))

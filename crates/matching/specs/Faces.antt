@@ -1,7 +1,7 @@
 -- Section 7: the faces to try, as one statement about the definitions that the public calls promise. Proved in proofs/Tried.antt.
 use Prim.Native.Nat.{ℕ, _-_}
 use mathlib.Core.Path.{_≡_}
-use mathlib.Core.Bool.{Bool, true, false}
+use mathlib.Core.Bool.{Bool, true, false, cond}
 use mathlib.Core.List.{List, [], _∷_, _++_}
 use lib.IntN.{pos, negsuc}
 use lib.Ieee.{Float, binary32, round, neg}
@@ -67,7 +67,7 @@ forWidth ratio = attributesOf ratio Normal (single 400)
 unfoldable pub forStyle : FontStyle → Attributes
 forStyle s = attributesOf (single 1) s (single 400)
 
--- `unvaried` is the whole answer: no refusal, no setting, the emboldening and the skew
+-- `unvaried` is the whole answer: no refusal, no setting, the emboldening and the skew. It is the same under both readings.
 pub record FacesToTry : Type 0 where
   pub item1 : (on : Bool) → ofTwo (weighing 300) (weighing 600) (forWeight 450) on ≡ Place 0
   pub item2 : (on : Bool) → ofTwo (weighing 400) (weighing 500) (forWeight 450) on ≡ Place 1
@@ -88,14 +88,14 @@ pub record FacesToTry : Type 0 where
       × (ofTwo (styled Normal) (slanting Normal) (forStyle (stated (single 14))) false ≡ Place 0)
       × (ofTwo (slanting Normal) (styled Normal) (forStyle (stated (single 14))) false ≡ Place 0)
   pub item9 : (on : Bool) → ofTwo (styled Normal) (styled (stated (single 0))) (forStyle Italic) on ≡ Place 0
-  pub item10 :
-      (synthesisOf (weighing 400) (forWeight 600) ≡ unvaried 0 false (pos 0))
-      × (synthesisOf (weighing 400) (forWeight 601) ≡ unvaried 0 true (pos 0))
-  pub item11 :
-      (synthesisOf (styled Normal) (forStyle (stated (fraction 9 10))) ≡ unvaried 0 false (pos 0))
-      × (synthesisOf (styled Normal) (forStyle (stated (minusFraction 149 10))) ≡ unvaried 0 false (negsuc 13))
-      × (synthesisOf (styled Normal) (forStyle (stated (single 200))) ≡ unvaried 0 false (pos 127))
-      × (synthesisOf (styled Normal) (forStyle (stated (neg (single 200)))) ≡ unvaried 0 false (negsuc 127))
+  pub item10 : (new : Bool)
+      → (synthesisOf (cond new 1 0) (weighing 400) (forWeight 600) ≡ unvaried 0 false (pos 0))
+      × (synthesisOf (cond new 1 0) (weighing 400) (forWeight 601) ≡ unvaried 0 true (pos 0))
+  pub item11 : (new : Bool)
+      → (synthesisOf (cond new 1 0) (styled Normal) (forStyle (stated (fraction 9 10))) ≡ unvaried 0 false (pos 0))
+      × (synthesisOf (cond new 1 0) (styled Normal) (forStyle (stated (minusFraction 149 10))) ≡ unvaried 0 false (negsuc 13))
+      × (synthesisOf (cond new 1 0) (styled Normal) (forStyle (stated (single 200))) ≡ unvaried 0 false (pos 127))
+      × (synthesisOf (cond new 1 0) (styled Normal) (forStyle (stated (neg (single 200)))) ≡ unvaried 0 false (negsuc 127))
   pub item12 : (fixedToSingle 16777217 ≡ single 256) × (fixedToSingle 16777219 ≡ fraction 16777220 65536)
   pub item13 :
       (ofTwo (styled (stated (single 0))) (slanting (stated (single 0))) (forStyle (stated (single 14))) true ≡ Nothing)

@@ -5,8 +5,9 @@ pub mod Order
 pub mod Matching
 pub mod Family
 pub mod Synthesis
--- Section 7's items, one statement about these.
+-- Section 7's items, one statement about these; and the two readings.
 pub mod Faces
+pub mod TwoReadings
 -- How the code carries a face and a rank: nothing here is a promise to a user.
 pub mod Packed
 pub mod Rows

@@ -1,13 +1,14 @@
 -- Section 5: synthesis.
 use Prim.Native.Nat.{ℕ, _+_}
 use mathlib.Core.Bool.{Bool, false, not, _&&_, cond}
-use mathlib.Core.List.{[], _∷_}
+use mathlib.Core.List.{List, [], _∷_}
 use lib.Dec.{ltb, eqb}
 use lib.IntN.{ℤ, pos}
 use lib.Ieee.{Float, binary32, add, mul, lt, toSigned}
 use lib.ListN.{set}
 use Rattle.font.specs.Single.{single, orderKey}
 use Rattle.font.specs.Attributes.{acceptedAttributes}
+use Rattle.font.specs.Slant.{isReading, opposite, slantUnder}
 use Rattle.font.specs.Overrides.{faceRefusal}
 use Rattle.font.specs.declared.attributes.Angle.{Angle}
 use Rattle.font.specs.declared.attributes.Angle.the-variants.{Unstated, Degrees}
@@ -53,24 +54,26 @@ unfoldable pub degreesOf : Angle → Float
 degreesOf Unstated = single 14
 degreesOf (Degrees x) = x
 
--- "Italic: `ital` 1, else `slnt` 14, else skew 14."
-unfoldable pub italicLean : Varies → Lean
-italicLean v = cond (v .italic) (Varied ital (single 1)) (cond (v .slant) (Varied slnt (single 14)) (Skewed (pos 14)))
+-- "Italic: `ital` 1, else `slnt` 14, else skew 14." The second reading "negates .. the `slnt` value on synthesis".
+unfoldable pub italicLean : ℕ → Varies → Lean
+italicLean reading v =
+    cond (v .italic) (Varied ital (single 1)) (cond (v .slant) (Varied slnt (slantUnder reading (single 14))) (Skewed (pos 14)))
 
 -- "Oblique (unstated = 14): `slnt` degrees; else, if degrees > 0, `ital` 1; else skew, degrees truncated toward zero and held to −128 to 127."
 unfoldable pub leansRight : Varies → Float → Bool
 leansRight v d = v .italic && ltb zeroAngle (orderKey d)
 
-unfoldable pub obliqueLean : Varies → Float → Lean
-obliqueLean v d = cond (v .slant) (Varied slnt d) (cond (leansRight v d) (Varied ital (single 1)) (Skewed (toSigned 7 d)))
+unfoldable pub obliqueLean : ℕ → Varies → Float → Lean
+obliqueLean reading v d =
+    cond (v .slant) (Varied slnt (slantUnder reading d)) (cond (leansRight v d) (Varied ital (single 1)) (Skewed (toSigned 7 d)))
 
 -- "Style matters only for a normal face and another requested style." The face's own style comes first.
-unfoldable pub leanOf : Varies → FontStyle → FontStyle → Lean
-leanOf v Normal Normal = Upright
-leanOf v Normal Italic = italicLean v
-leanOf v Normal (Oblique a) = obliqueLean v (degreesOf a)
-leanOf v Italic w = Upright
-leanOf v (Oblique b) w = Upright
+unfoldable pub leanOf : ℕ → Varies → FontStyle → FontStyle → Lean
+leanOf reading v Normal Normal = Upright
+leanOf reading v Normal Italic = italicLean reading v
+leanOf reading v Normal (Oblique a) = obliqueLean reading v (degreesOf a)
+leanOf reading v Italic w = Upright
+leanOf reading v (Oblique b) w = Upright
 
 -- the setting of a lean, and its skew
 unfoldable pub settingOf : Lean → Setting
@@ -113,16 +116,16 @@ unfoldable pub added : Synthesis → Setting → Synthesis
 added s Unset = s
 added s (Set tag value) = put s tag value
 
--- "In this order": width, weight, style. The face's own attributes, its axes, and the request.
-unfoldable pub synthesized : Attributes → Varies → Attributes → Synthesis
-synthesized own v a =
+-- "In this order": width, weight, style. The reading, the face's own attributes, its axes, and the request.
+unfoldable pub synthesized : ℕ → Attributes → Varies → Attributes → Synthesis
+synthesized reading own v a =
     added
     (added
     (added
-    (unvaried 0 (emboldened v (own .weight .value) (a .weight .value)) (skewOf (leanOf v (own .style) (a .style))))
+    (unvaried 0 (emboldened v (own .weight .value) (a .weight .value)) (skewOf (leanOf reading v (own .style) (a .style))))
     (widthSetting v (own .width .ratio) (a .width .ratio)))
     (weightSetting v (a .weight .value)))
-    (settingOf (leanOf v (own .style) (a .style)))
+    (settingOf (leanOf reading v (own .style) (a .style)))
 
 -- a face's axes, as synthesis looks at them
 unfoldable pub variesOf : FontInfo → Varies
@@ -135,12 +138,33 @@ variesOf font =
       italic = hasAxis font ital;
     }
 
--- a call on a face by value: 19, then 26; a refused answer is empty
-unfoldable pub synthesisRefusal : FontInfo → Attributes → ℕ
-synthesisRefusal font a = cond (eqb (faceRefusal font) 0) (cond (acceptedAttributes a) 0 26) (faceRefusal font)
+-- a call on a face by value: 25 for a value that is no reading, "first below the job"; 19, then 26; a refused answer is empty
+unfoldable pub synthesisRefusal : ℕ → FontInfo → Attributes → ℕ
+synthesisRefusal reading font a =
+    cond (isReading reading)
+    (cond (eqb (faceRefusal font) 0) (cond (acceptedAttributes a) 0 26) (faceRefusal font))
+    25
 
-unfoldable pub synthesisOf : FontInfo → Attributes → Synthesis
-synthesisOf font a =
-    cond (eqb (synthesisRefusal font a) 0)
-    (synthesized (font .attributes) (variesOf font) a)
-    (unvaried (synthesisRefusal font a) false (pos 0))
+unfoldable pub synthesisOf : ℕ → FontInfo → Attributes → Synthesis
+synthesisOf reading font a =
+    cond (eqb (synthesisRefusal reading font a) 0)
+    (synthesized reading (font .attributes) (variesOf font) a)
+    (unvaried (synthesisRefusal reading font a) false (pos 0))
+
+-- ---- what reading 1 makes of a synthesis of reading 0, said without a reading: the value that `slnt` is set to is negated, and nothing else is another
+
+unfoldable pub oppositeValues : List ℕ → List Float → List Float
+oppositeValues [] xs = xs
+oppositeValues (t ∷ ts) [] = []
+oppositeValues (t ∷ ts) (x ∷ xs) = cond (eqb t slnt) (opposite x) x ∷ oppositeValues ts xs
+
+unfoldable pub oppositeSlant : Synthesis → Synthesis
+oppositeSlant s =
+    record {
+      refusal = s .refusal;
+      tags = s .tags;
+      values = oppositeValues (s .tags) (s .values);
+      len = s .len;
+      embolden = s .embolden;
+      skew = s .skew;
+    }

@@ -12,6 +12,7 @@ use font::attributes::FontWeight;
 use font::attributes::FontWidth;
 use font::font::FontInfo;
 use font::overrides;
+use font::slant;
 
 // Which axes a face has.
 pub fn varies(font: FontInfo) -> Varies
@@ -33,10 +34,13 @@ pub fn varies(font: FontInfo) -> Varies
     }
 }
 
-// The refusal of a call on a face with a request: 19, 26 or 0.
-fn synthesis_refusal(font: FontInfo, request: Attributes) -> u8
-    ensures { λ r. ⌜ r ≡ synthesisRefusal font request ⌝ }
+// The refusal of a call on a face with a request under a reading: 25, 19, 26 or 0.
+fn synthesis_refusal(font: FontInfo, reading: u32, request: Attributes) -> u8
+    ensures { λ r. ⌜ r ≡ synthesisRefusal reading font request ⌝ }
 {
+    if !slant::is_reading(reading) {
+        return 25;
+    }
     let refusal = overrides::face_refusal(font);
     if refusal != 0 {
         return refusal;
@@ -47,24 +51,25 @@ fn synthesis_refusal(font: FontInfo, request: Attributes) -> u8
     26
 }
 
-// The synthesis that brings a face to the requested attributes.
+// The synthesis that brings a face to the requested attributes, under a reading.
 pub fn synthesis(
     font: FontInfo,
+    reading: u32,
     width: FontWidth,
     style: FontStyle,
     weight: FontWeight,
 ) -> Synthesis
-    ensures { λ r. ⌜ r ≡ synthesisOf font (attributesFrom width style weight) ⌝ }
+    ensures { λ r. ⌜ r ≡ synthesisOf reading font (attributesFrom width style weight) ⌝ }
 {
     let request = Attributes {
         width,
         style,
         weight,
     };
-    let refusal = synthesis_refusal(font, request);
+    let refusal = synthesis_refusal(font, reading, request);
     if refusal != 0 {
         return Synthesis::unvaried(refusal, false, 0);
     }
     let own = font.attributes;
-    synthesis::synthesize(own, varies(font), request)
+    synthesis::synthesize(own, varies(font), reading, request)
 }

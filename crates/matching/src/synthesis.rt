@@ -7,6 +7,7 @@ use font::attributes::Angle;
 use font::attributes::Attributes;
 use font::attributes::FontStyle;
 use font::single;
+use font::slant;
 
 // A variation setting: a tag and its value, or none.
 pub enum Setting {
@@ -82,14 +83,14 @@ fn degrees(angle: Angle) -> f32
     }
 }
 
-fn italic_lean(varies: Varies) -> Lean
-    ensures { λ r. ⌜ r ≡ italicLean varies ⌝ }
+fn italic_lean(varies: Varies, reading: u32) -> Lean
+    ensures { λ r. ⌜ r ≡ italicLean reading varies ⌝ }
 {
     if varies.italic {
         return Lean::Varied(axes::ITAL, 1.0);
     }
     if varies.slant {
-        return Lean::Varied(axes::SLNT, 14.0);
+        return Lean::Varied(axes::SLNT, slant::slant_under(reading, 14.0));
     }
     Lean::Skewed(14)
 }
@@ -105,11 +106,11 @@ fn leans_right(varies: Varies, degrees: f32) -> bool
     }
 }
 
-fn oblique_lean(varies: Varies, degrees: f32) -> Lean
-    ensures { λ r. ⌜ r ≡ obliqueLean varies degrees ⌝ }
+fn oblique_lean(varies: Varies, reading: u32, degrees: f32) -> Lean
+    ensures { λ r. ⌜ r ≡ obliqueLean reading varies degrees ⌝ }
 {
     if varies.slant {
-        return Lean::Varied(axes::SLNT, degrees);
+        return Lean::Varied(axes::SLNT, slant::slant_under(reading, degrees));
     }
     if leans_right(varies, degrees) {
         return Lean::Varied(axes::ITAL, 1.0);
@@ -118,14 +119,14 @@ fn oblique_lean(varies: Varies, degrees: f32) -> Lean
 }
 
 // Style matters only for a normal face and another requested style.
-fn lean_of(varies: Varies, own: FontStyle, wanted: FontStyle) -> Lean
-    ensures { λ r. ⌜ r ≡ leanOf varies own wanted ⌝ }
+fn lean_of(varies: Varies, reading: u32, own: FontStyle, wanted: FontStyle) -> Lean
+    ensures { λ r. ⌜ r ≡ leanOf reading varies own wanted ⌝ }
 {
     match own {
         FontStyle::Normal => match wanted {
             FontStyle::Normal => Lean::Upright,
-            FontStyle::Italic => italic_lean(varies),
-            FontStyle::Oblique(angle) => oblique_lean(varies, degrees(angle)),
+            FontStyle::Italic => italic_lean(varies, reading),
+            FontStyle::Oblique(angle) => oblique_lean(varies, reading, degrees(angle)),
         },
         FontStyle::Italic => Lean::Upright,
         FontStyle::Oblique(_) => Lean::Upright,
@@ -193,14 +194,14 @@ impl Synthesis {
     }
 }
 
-// The synthesis of a face with these attributes and axes, for a request.
-pub fn synthesize(own: Attributes, varies: Varies, request: Attributes) -> Synthesis
-    ensures { λ r. ⌜ r ≡ synthesized own varies request ⌝ }
+// The synthesis of a face with these attributes and axes, under a reading, for a request.
+pub fn synthesize(own: Attributes, varies: Varies, reading: u32, request: Attributes) -> Synthesis
+    ensures { λ r. ⌜ r ≡ synthesized reading own varies request ⌝ }
 {
     let own_style = own.style;
     let style = request.style;
     let embolden = emboldens(varies, own.weight.value, request.weight.value);
-    let lean = lean_of(varies, own_style, style);
+    let lean = lean_of(varies, reading, own_style, style);
     Synthesis::unvaried(0, embolden, skew_of(lean))
         .added(width_setting(varies, own.width.ratio, request.width.ratio))
         .added(weight_setting(varies, request.weight.value))

@@ -1,5 +1,5 @@
 // Reads a list of jobs from standard input, each after its length, and prints for each what the program `offers` prints,
-// with the charmap index of each offer.
+// with the charmap index of each offer: under reading 0, and then under reading 1.
 //
 // The files `stdin` and `stdout` of this crate are what `cargo run --release -- jobs --out DIR` writes in
 // `rust/reference`: the list, and the offers of the original sources for it; refusals are those of `rust/plain`, which
@@ -15,7 +15,9 @@ fn print_case(list: &[u8]) -> usize
 {
     let end = 4 + tables::u32_at(list, 0) as usize;
     if end <= list.len() {
-        lines::print_job(&list[4..end], true);
+        let job = &list[4..end];
+        lines::print_job(job, 0, true);
+        lines::print_job(job, 1, true);
     }
     end
 }

@@ -1,14 +1,18 @@
 // The lines of a job, written to standard output.
 ghost use mathlib.Core.Path.{_≡_};
-ghost use Rattle.query.specs.Job.{checkJob};
+ghost use Rattle.output.specs.Lines.{checkedUnder};
 use crate::words;
 use font::charmap::CharmapIndex;
+use font::slant;
 use libc::STDOUT_FILENO;
 use query::answer::Answer;
 use query::call;
 use query::cursor::Cursor;
 use query::job;
 use query::job::Checked;
+
+// The most bytes that a job has.
+const MOST_BYTES: usize = 16_777_216;
 
 // The most requests that a job has.
 const MOST_REQUESTS: u32 = 256;
@@ -54,11 +58,11 @@ fn print_offer(request: u32, answer: Answer, indexed: bool) {
 }
 
 // The lines of a request: a fresh cursor is stepped to the end of the list.
-fn print_request(job: &[u8], request: u32, indexed: bool) {
+fn print_request(job: &[u8], reading: u32, request: u32, indexed: bool) {
     let mut cursor = Cursor::new(request);
     let mut n: u32 = 0;
     while n < PAST_MOST {
-        let step = cursor.step(job);
+        let step = cursor.step(job, reading);
         let answer = step.answer;
         if answer.result != 0 {
             return;
@@ -71,7 +75,7 @@ fn print_request(job: &[u8], request: u32, indexed: bool) {
 
 // Whether an accepted job has the request: 28 says that it has not.
 fn has_request(job: &[u8], request: u32) -> bool {
-    let answer = call::offer_at(job, request, PAST_MOST);
+    let answer = call::offer_at(job, 0, request, PAST_MOST);
     answer.result != 28
 }
 
@@ -86,26 +90,41 @@ fn request_count(job: &[u8]) -> u32 {
     MOST_REQUESTS
 }
 
-fn print_requests(job: &[u8], count: u32, indexed: bool) {
+fn print_requests(job: &[u8], reading: u32, count: u32, indexed: bool) {
     let mut request: u32 = 0;
     while request < count {
-        print_request(job, request, indexed);
+        print_request(job, reading, request, indexed);
         request += 1;
     }
 }
 
-// Prints what section 7's program prints for a job, and where `indexed` the charmap index of each offer after its skew.
-// Answers what the check call does.
-pub fn print_job(job: &[u8], indexed: bool) -> Checked
-    ensures { λ r. ⌜ r ≡ checkJob (now (job .entry)) ⌝ }
+// What the check call answers, but 25 where there is no such reading and the job is not too long.
+fn checked_under(job: &[u8], reading: u32) -> Checked
+    ensures { λ r. ⌜ r ≡ checkedUnder (now (job .entry)) reading ⌝ }
 {
-    let checked = job::check(job);
+    if !slant::is_reading(reading) {
+        if job.len() <= MOST_BYTES {
+            return Checked {
+                refusal: 25,
+                position: 0,
+            };
+        }
+    }
+    job::check(job)
+}
+
+// Prints what section 7's program prints for a job under a reading, and where `indexed` the charmap index of each offer
+// after its skew. Answers whether the job was refused, and where.
+pub fn print_job(job: &[u8], reading: u32, indexed: bool) -> Checked
+    ensures { λ r. ⌜ r ≡ checkedUnder (now (job .entry)) reading ⌝ }
+{
+    let checked = checked_under(job, reading);
     if checked.refusal == 0 {
         let count = request_count(job);
         io::write_all(STDOUT_FILENO, b"requests");
         print_number(count as u64);
         io::write_all(STDOUT_FILENO, b"\n");
-        print_requests(job, count, indexed);
+        print_requests(job, reading, count, indexed);
     } else {
         io::write_all(STDOUT_FILENO, b"refused");
         print_number(checked.refusal as u64);

@@ -81,11 +81,12 @@ fn print_kept(kept: bool) {
 }
 
 // The exported offer call with the first `size` bytes of 48 as its output.
-pub fn call(job: &[u8], request: u32, number: u32, size: usize)
+pub fn call(job: &[u8], reading: u32, request: u32, number: u32, size: usize)
     requires { ⌜ size ≤ 48 ⌝ }
 {
     let mut out = marked();
-    let result = stemhook::stemhook_offer(job, request, number, &mut out[0..size]);
+    let result = stemhook::stemhook_offer(job, reading, request, number, &mut out[0..size]);
+    print_number(b' ', reading as u64);
     print_number(b' ', request as u64);
     print_number(b' ', number as u64);
     print_number(b' ', size as u64);

@@ -1,13 +1,13 @@
 -- The offer call, case by case: what each return of its code has to show.
 use Prim.Native.Nat.{ℕ, zero, suc, _+_, _-_, _^_, _≤_, _<_}
 use mathlib.Core.Path.{_≡_, refl, sym, ap, _∙_}
-use mathlib.Core.Bool.{Bool, true, false, cond}
+use mathlib.Core.Bool.{Bool, true, false, not, _&&_, cond}
 use mathlib.Core.List.{List, [], _∷_}
 use native.Mathlib.Omega.{arith}
-use lib.Dec.{ltb, eqb}
+use lib.Dec.{leb, ltb, eqb}
 use lib.IntN.{ℤ}
 use lib.ListN.{length, getD}
-use borrow.Author.Tests.{lt-ltb, le-ltb, ltb-true, ltb-false, eq-eqb, ne-eqb}
+use borrow.Author.Tests.{lt-ltb, le-ltb, ltb-true, ltb-false, eq-eqb, ne-eqb, le-leb, lt-leb}
 use Rattle.font.specs.declared.attributes.Angle.the-variants.{Unstated, Degrees}
 use Rattle.font.specs.declared.attributes.FontStyle.{FontStyle}
 use Rattle.font.specs.declared.attributes.FontStyle.the-variants.{Normal, Italic, Oblique}
@@ -15,6 +15,7 @@ use Rattle.font.specs.declared.attributes.Attributes.{Attributes}
 use Rattle.font.specs.declared.charmap.CharmapIndex.{CharmapIndex}
 use Rattle.font.specs.declared.font.FontInfo.{FontInfo}
 use Rattle.font.specs.Attributes.{acceptedAngle, acceptedStyle, acceptedAttributes}
+use Rattle.font.specs.Slant.{isReading}
 use Rattle.font.specs.Overrides.{withOverride}
 use Rattle.font.proofs.Inside.{offset-inside}
 use Rattle.matching.specs.declared.order.Request as Matching
@@ -31,60 +32,78 @@ use Rattle.query.specs.declared.answer.Answer.{Answer}
 use Rattle.query.specs.declared.call.SearchResult.{SearchResult}
 use Rattle.query.specs.declared.job.Checked.{Checked}
 use Rattle.query.specs.declared.job.Walked.{Walked}
-use Rattle.query.specs.Sizes.{recordSize}
-use Rattle.query.specs.Reader.{number, Got, refused, got}
+use Rattle.query.specs.Sizes.{recordSize, mostBytes}
+use Rattle.query.specs.Reader.{overlong, number, Got, refused, got}
 use Rattle.query.specs.Layout.{Bytes, angleOf, Every, Fits32, AngleFits, StyleFits, FaceFits, RequestFits, JobFits}
 use Rattle.query.specs.Entries.{Face, Override, Request}
-use Rattle.query.specs.Job.{Job, readJob, answer, checkJob, jobOf}
-use Rattle.query.specs.View.{View, overriddenBy, afterOverrides, noEntry, entryOf, statedBy, viewOf}
-use Rattle.query.specs.Offers.{offerOf, membersOf, offersOf, faceOfOffer, synthesisOfOffer, offerAt}
+use Rattle.query.specs.Job.{Job, readSections, readJob, answer, checkJob, jobOf}
+use Rattle.query.specs.View.{View, overriddenBy, afterOverrides, noEntry, entryOf, statedBy, viewBy, viewOf}
+use Rattle.query.specs.Offers.{offerOf, membersOf, offers, offersOf, faceOfOffer, synthesisOfOffer, offerAt}
 use Rattle.query.specs.Values.{attributesAt, requestAt}
-use Rattle.query.specs.CallTables.{OfferedFace, LoadAnswer}
+use Rattle.query.specs.CallTables.{OfferedFace, RowsShow, TablesOf, LoadAnswer}
 use Rattle.query.specs.Listed.{listedAt, Names, answerAt, Locates, SearchAnswer, LeadsTo}
 use Rattle.query.specs.Record.{Numbers, recordBytes}
-use Rattle.query.specs.Call.{Called, withoutOffer, withSynthesis, answered, requestOfJob, requestAnswer, jobAnswer, answerCall, written, unwritten, offerCall, Calls}
+use Rattle.query.specs.Call.{Called, withoutOffer, withSynthesis, answered, requestOfJob, viewAnswer, requestAnswer, jobAnswer, answerCall, written, unwritten, offerCall, Calls}
 use Rattle.query.proofs.AcceptedJobs.{accepted-is-a-layout}
 use Rattle.query.proofs.Checks.{accepted}
+use Rattle.query.proofs.RowFamilies.{rows-show}
 use Rattle.query.proofs.Picked.{pick-in, pick-past}
-use Rattle.query.proofs.SoundOffers.{offers-sound}
+use Rattle.query.proofs.SoundOffers.{offers-named}
 
 -- ---- the answer to a request and an offer number
 
 -- a search that gives a result alone
-pub finds-none : {s : List ℕ} {a : Answer} {f : SearchResult} {n : ℕ} → f .result ≡ n → (n ≡ 0 → ⊥) → withoutOffer n ≡ a → LeadsTo s a f
+pub finds-none : {reading : ℕ} {s : List ℕ} {a : Answer} {f : SearchResult} {n : ℕ} → f .result ≡ n → (n ≡ 0 → ⊥) → withoutOffer n ≡ a → LeadsTo reading s a f
 finds-none is h e =
     record {
       readable = λ z. absurd (h (sym is ∙ z));
       leads = λ r. r .none (λ z. h (sym is ∙ z)) ∙ ap withoutOffer is ∙ e;
     }
 
-pub finds-same : {s : List ℕ} {a b : Answer} {f : SearchResult} → a ≡ b → LeadsTo s a f → LeadsTo s b f
+pub finds-same : {reading : ℕ} {s : List ℕ} {a b : Answer} {f : SearchResult} → a ≡ b → LeadsTo reading s a f → LeadsTo reading s b f
 finds-same e finds = record { readable = finds .readable; leads = λ r. finds .leads r ∙ e }
 
-module _ (s : List ℕ) (k n : ℕ) where
-  pub job-refused : (r : ℕ) → r ≡ checkJob s .refusal → (r ≡ 0 → ⊥) → withoutOffer r ≡ answerCall s k n
-  unfolding answerCall checkJob answer jobAnswer
-  job-refused r same h = go (readJob s) same
+-- a value that is no reading: 25, but 17 where the job is too long
+module _ (s : List ℕ) (reading : ℕ) (none : isReading reading ≡ false) (k n : ℕ) where
+  pub no-reading : withoutOffer (cond (leb (length s) mostBytes) 25 17) ≡ answerCall s reading k n
+  unfolding answerCall readJob jobAnswer number
+  no-reading = rw none (go (leb (length s) mostBytes))
     where
-      go : (g : Got Job) → r ≡ answer g .refusal → withoutOffer r ≡ jobAnswer g k n
+      go : (b : Bool) → withoutOffer (cond b 25 17) ≡ cond b (withoutOffer 25) (jobAnswer reading (cond b (readSections s 0) (refused overlong 0)) k n)
+      go true = refl
+      go false = refl
+
+-- under a reading
+module _ (s : List ℕ) (reading : ℕ) (known : isReading reading ≡ true) (k n : ℕ) where
+  by-job : answerCall s reading k n ≡ jobAnswer reading (readJob s) k n
+  unfolding answerCall
+  by-job = rw known
+
+  pub job-refused : (r : ℕ) → r ≡ checkJob s .refusal → (r ≡ 0 → ⊥) → withoutOffer r ≡ answerCall s reading k n
+  unfolding checkJob answer jobAnswer
+  job-refused r same h = go (readJob s) same ∙ sym by-job
+    where
+      go : (g : Got Job) → r ≡ answer g .refusal → withoutOffer r ≡ jobAnswer reading g k n
       go (refused w p) e = ap withoutOffer e
       go (got j p) e = absurd (h e)
 
   module _ (j : Job) (e : ℕ) (read : readJob s ≡ got j e) where
-    pub called : answerCall s k n ≡ requestAnswer j k n
-    unfolding answerCall jobAnswer
-    called = rw read
+    pub called : answerCall s reading k n ≡ requestAnswer reading j k n
+    unfolding jobAnswer
+    called = by-job ∙ rw read
 
-    pub no-request : length (j .requests) ≤ k → answerCall s k n ≡ withoutOffer 28
-    unfolding requestAnswer
+    pub no-request : length (j .requests) ≤ k → answerCall s reading k n ≡ withoutOffer 28
+    unfolding requestAnswer viewAnswer
     no-request h = called ∙ rw (le-ltb k (length (j .requests)) h)
 
-    pub a-request : k < length (j .requests) → answerCall s k n ≡ answered (viewOf j) (requestOfJob j k) (offerAt (offersOf (viewOf j) (requestOfJob j k)) n)
-    unfolding requestAnswer
+    pub a-request : k < length (j .requests)
+        → answerCall s reading k n ≡ answered reading (viewOf reading j) (requestOfJob j k) (offerAt (offersOf (viewOf reading j) (requestOfJob j k)) n)
+    unfolding requestAnswer viewAnswer
     a-request there = called ∙ rw (lt-ltb k (length (j .requests)) there)
 
 -- the same from what was loaded for the request of a number
-module _ {s : List ℕ} {w : Walked} {rows : List (List ℕ)} {families : List ℕ} {k : ℕ} (loads : LoadAnswer s w rows families k) where
+module _ {reading : ℕ} (known-reading : isReading reading ≡ true) {s : List ℕ} {w : Walked} {rows : List (List ℕ)} {families : List ℕ} {k : ℕ}
+    (loads : LoadAnswer reading s w rows families k) where
   pub refusal-is : w .refusal ≡ checkJob s .refusal
   refusal-is = ap (λ (c : Checked). c .refusal) (loads .checked)
 
@@ -92,8 +111,8 @@ module _ {s : List ℕ} {w : Walked} {rows : List (List ℕ)} {families : List �
     the : (q : ℕ) × (readJob s ≡ got (jobOf s) q)
     the = accepted s (sym refusal-is ∙ z)
 
-    pub unknown-request : w .requests ≤ k → (n : ℕ) → withoutOffer 28 ≡ answerCall s k n
-    unknown-request h n = sym (no-request s k n (jobOf s) (the .0) (the .1) (omega (arith, loads .requests z)))
+    pub unknown-request : w .requests ≤ k → (n : ℕ) → withoutOffer 28 ≡ answerCall s reading k n
+    unknown-request h n = sym (no-request s reading known-reading k n (jobOf s) (the .0) (the .1) (omega (arith, loads .requests z)))
 
     module _ (there : k < w .requests) where
       known : k < length (jobOf s .requests)
@@ -102,11 +121,11 @@ module _ {s : List ℕ} {w : Walked} {rows : List (List ℕ)} {families : List �
       pub request-inside : w .request < length s
       request-inside = loads .request (requestOfJob (jobOf s) k) z known .inside
 
-      pub request-answered : (n : ℕ) → answerAt s (w .request) n ≡ answerCall s k n
+      pub request-answered : (n : ℕ) → answerAt reading s (w .request) n ≡ answerCall s reading k n
       unfolding answerAt requestOfJob
       request-answered n =
-          ap (λ (r : Request). answered (viewOf (jobOf s)) r (offerAt (offersOf (viewOf (jobOf s)) r) n)) (loads .request _ z known .is)
-          ∙ sym (a-request s k n (jobOf s) (the .0) (the .1) known)
+          ap (λ (r : Request). answered reading (viewOf reading (jobOf s)) r (offerAt (offersOf (viewOf reading (jobOf s)) r) n)) (loads .request _ z known .is)
+          ∙ sym (a-request s reading known-reading k n (jobOf s) (the .0) (the .1) known)
 
 -- ---- the request that lies at a position
 
@@ -121,50 +140,59 @@ in-list list n o e = go (ltb n (length list)) refl
         let q = pick-past At (λ k. Past) list n (n - length list) (omega (arith, ltb-false n (length list) t)) in
         absurd (let z : _≡_ {A = ℕ} 0 1 = cc in omega arith)
 
-module _ (s : List ℕ) (p n : ℕ) {wanted : Attributes} (asks : wanted ≡ attributesAt s (p + 2)) {request : Matching.Request} (made : request ≡ requestOf wanted true)
-    {found : Offered} (is : found ≡ offerAt (listedAt s p request) n) where
-  list-is : listedAt s p request ≡ offersOf (viewOf (jobOf s)) (requestAt s p)
-  unfolding listedAt offersOf requestAt
-  list-is = rw (made, asks)
+module _ (s : List ℕ) (rows : List (List ℕ)) (p n : ℕ) {wanted : Attributes} (asks : wanted ≡ attributesAt s (p + 2)) {request : Matching.Request} (made : request ≡ requestOf wanted true)
+    {found : Offered} (is : found ≡ offerAt (listedAt s rows p request) n) where
+  -- an offer that is found names a family of the job and a place in it, whatever the rows are of
+  pub found-names : {o : Offer} → found ≡ At o → Names s o
+  unfolding listedAt
+  found-names {o} some =
+      let q = in-list (listedAt s rows p request) n o (sym is ∙ some) in
+      let g = offers-named s rows request (requestAt s p .most) (requestAt s p .families) (requestAt s p .fallbacks) n (q .0) in
+      rw (q .1) at g
 
-  answer-is : answered (viewOf (jobOf s)) (requestAt s p) found ≡ answerAt s p n
-  unfolding answerAt
-  answer-is = ap (answered (viewOf (jobOf s)) (requestAt s p)) (is ∙ ap (λ (os : List Offer). offerAt os n) list-is)
+  -- under the reading that the rows are of
+  module _ {families : List ℕ} (loaded : TablesOf s rows families) (reading : ℕ) (shows : RowsShow reading s rows) where
+    abbrev view : View
+    view = viewOf reading (jobOf s)
 
-  pub past-list : found ≡ Past → withoutOffer 1 ≡ answerAt s p n
-  unfolding answered
-  past-list none = sym (ap (answered (viewOf (jobOf s)) (requestAt s p)) none) ∙ answer-is
+    list-is : listedAt s rows p request ≡ offersOf view (requestAt s p)
+    unfolding listedAt offersOf requestAt
+    list-is =
+        (λ i. offers (λ f. rows-show loaded shows request f i) (requestAt s p .most) (requestAt s p .families) (requestAt s p .fallbacks))
+        ∙ rw (made, asks)
 
-  module _ {o : Offer} (some : found ≡ At o) where
-    pub found-names : Names s o
-    unfolding listedAt
-    found-names =
-        let q = in-list (listedAt s p request) n o (sym is ∙ some) in
-        let g = offers-sound (viewOf (jobOf s)) request (requestAt s p .most) (requestAt s p .families) (requestAt s p .fallbacks) n (q .0) in
-        record { family = rw (q .1) at (g .0); place = rw (q .1) at (g .1) }
+    answer-is : answered reading view (requestAt s p) found ≡ answerAt reading s p n
+    unfolding answerAt
+    answer-is = ap (answered reading view (requestAt s p)) (is ∙ ap (λ (os : List Offer). offerAt os n) list-is)
 
-    an-offer : {font : FontInfo} → font ≡ faceOfOffer (viewOf (jobOf s)) o
-        → withSynthesis o (synthesized (font .attributes) (variesOf font) wanted) (font .«charmap_index») ≡ answerAt s p n
-    unfolding answered synthesisOfOffer requestAt
-    an-offer face =
-        (λ i. withSynthesis o (synthesized (face i .attributes) (variesOf (face i)) (asks i)) (face i .«charmap_index»))
-        ∙ sym (ap (answered (viewOf (jobOf s)) (requestAt s p)) some)
-        ∙ answer-is
+    pub past-list : found ≡ Past → withoutOffer 1 ≡ answerAt reading s p n
+    unfolding answered
+    past-list none = sym (ap (answered reading view (requestAt s p)) none) ∙ answer-is
 
-    pub finds-offer : {f : SearchResult} → Locates s o wanted f → LeadsTo s (answerAt s p n) f
-    finds-offer {f} lies =
-        record {
-          readable = λ z. lies .readable;
-          leads = λ r. let g = r .some (lies .found) in g .is ∙ same (g .font) ∙ an-offer (lies .face (g .font) (g .face));
-        }
-      where
-        same : (font : FontInfo) → withSynthesis (f .offer) (synthesized (font .attributes) (variesOf font) (f .wanted)) (font .«charmap_index»)
-            ≡ withSynthesis o (synthesized (font .attributes) (variesOf font) wanted) (font .«charmap_index»)
-        same font = rw (lies .offer, lies .wanted-is)
+    module _ {o : Offer} (some : found ≡ At o) where
+      an-offer : {font : FontInfo} → font ≡ faceOfOffer view o
+          → withSynthesis o (synthesized reading (font .attributes) (variesOf font) wanted) (font .«charmap_index») ≡ answerAt reading s p n
+      unfolding answered synthesisOfOffer requestAt
+      an-offer face =
+          (λ i. withSynthesis o (synthesized reading (face i .attributes) (variesOf (face i)) (asks i)) (face i .«charmap_index»))
+          ∙ sym (ap (answered reading view (requestAt s p)) some)
+          ∙ answer-is
+
+      pub finds-offer : {f : SearchResult} → Locates s o wanted f → LeadsTo reading s (answerAt reading s p n) f
+      finds-offer {f} lies =
+          record {
+            readable = λ z. lies .readable;
+            leads = λ r. let g = r .some (lies .found) in g .is ∙ same (g .font) ∙ an-offer (lies .face reading (g .font) (g .face));
+          }
+        where
+          same : (font : FontInfo) → withSynthesis (f .offer) (synthesized reading (font .attributes) (variesOf font) (f .wanted)) (font .«charmap_index»)
+              ≡ withSynthesis o (synthesized reading (font .attributes) (variesOf font) wanted) (font .«charmap_index»)
+          same font = rw (lies .offer, lies .wanted-is)
 
 -- the answer from the face that was read
-pub face-answered : {s : List ℕ} {f : SearchResult} {font : FontInfo} {a : Answer} → f .result ≡ 0 → OfferedFace s (f .section) (f .entry) (f .number) font
-    → a ≡ withSynthesis (f .offer) (synthesized (font .attributes) (variesOf font) (f .wanted)) (font .«charmap_index») → SearchAnswer s f a
+pub face-answered : {reading : ℕ} {s : List ℕ} {f : SearchResult} {font : FontInfo} {a : Answer} → f .result ≡ 0
+    → OfferedFace reading s (f .section) (f .entry) (f .number) font
+    → a ≡ withSynthesis (f .offer) (synthesized reading (font .attributes) (variesOf font) (f .wanted)) (font .«charmap_index») → SearchAnswer reading s f a
 face-answered {font = font} z face is = record { none = λ h. absurd (h z); some = λ _. record { font = font; face = face; is = is } }
 
 -- ---- synthesis
@@ -181,9 +209,9 @@ three b k (Set t v) Unset (Set u w) = refl
 three b k (Set t v) (Set u w) Unset = refl
 three b k (Set t v) (Set u w) (Set c d) = refl
 
-pub no-fourth : (view : View) (r : Request) (o : Offer) → synthesisOfOffer view r o .refusal ≡ 0
+pub no-fourth : (reading : ℕ) (view : View) (r : Request) (o : Offer) → synthesisOfOffer view reading r o .refusal ≡ 0
 unfolding synthesisOfOffer synthesized
-no-fourth view r o = three _ _ _ _ _
+no-fourth reading view r o = three _ _ _ _ _
 
 -- ---- what the record of an answer is written from: the charmap index fits 32 bits, and no setting is a NaN
 
@@ -241,79 +269,83 @@ made-writable o made index h numbers = go (eqb (made .refusal) 29)
     go true = none-writable 29
     go false = (h, numbers)
 
-answered-writable : (view : View) (r : Request) → ((i : ℕ) → Small (view .font i .«charmap_index»)) → acceptedAttributes (r .attributes) ≡ true
-    → (a : Offered) → Writable (answered view r a)
+answered-writable : (reading : ℕ) (view : View) (r : Request) → ((i : ℕ) → Small (view .font i .«charmap_index»)) → acceptedAttributes (r .attributes) ≡ true
+    → (a : Offered) → Writable (answered reading view r a)
 unfolding answered faceOfOffer synthesisOfOffer
-answered-writable view r small fine (At o) =
+answered-writable reading view r small fine (At o) =
     let face = faceOfOffer view o in
-    made-writable o (synthesisOfOffer view r o) (face .«charmap_index») (small (getD (membersOf view (o .family)) (o .place) 0))
-    (setting-numbers (face .attributes) (variesOf face) (r .attributes) fine)
-answered-writable view r small fine Past = none-writable 1
+    made-writable o (synthesisOfOffer view reading r o) (face .«charmap_index») (small (getD (membersOf view (o .family)) (o .place) 0))
+    (setting-numbers reading (face .attributes) (variesOf face) (r .attributes) fine)
+answered-writable reading view r small fine Past = none-writable 1
 
-module _ (s : List ℕ) (bytes : Bytes s) where
-  font-small : (j : Job) → JobFits j → (i : ℕ) → Small (viewOf j .font i .«charmap_index»)
-  unfolding viewOf entryOf statedBy
+module _ (s : List ℕ) (bytes : Bytes s) (reading : ℕ) where
+  font-small : (j : Job) → JobFits j → (i : ℕ) → Small (viewOf reading j .font i .«charmap_index»)
+  unfolding viewOf viewBy entryOf statedBy
   font-small j fits i =
       omega (
         arith,
-        ap (λ (x : CharmapIndex). x .«subtable_offset») (kept-index (j .overrides) i (statedBy (getD (j .faces) i noEntry .font))),
-        offset-inside (getD (j .faces) i noEntry .font .file) (getD (j .faces) i noEntry .font .number),
+        ap (λ (x : CharmapIndex). x .«subtable_offset») (kept-index (j .overrides) i (statedBy reading (getD (j .faces) i noEntry .font))),
+        offset-inside reading (getD (j .faces) i noEntry .font .file) (getD (j .faces) i noEntry .font .number),
         every-at (λ (f : Face). Fits32 (length (f .font .file))) noEntry (omega arith) (j .faces) (font-lengths (j .faces) (fits .faces .1)) i,
       )
 
-  request-writable : (j : Job) → JobFits j → (k n : ℕ) → Writable (requestAnswer j k n)
-  unfolding requestAnswer requestOfJob
+  request-writable : (j : Job) → JobFits j → (k n : ℕ) → Writable (requestAnswer reading j k n)
+  unfolding requestAnswer viewAnswer requestOfJob
   request-writable j fits k n = go (ltb k (length (j .requests))) refl
     where
       r : Request
       r = requestOfJob j k
 
       go : (b : Bool) → ltb k (length (j .requests)) ≡ b
-          → Writable (cond b (answered (viewOf j) r (offerAt (offersOf (viewOf j) r) n)) (withoutOffer 28))
+          → Writable (cond b (answered reading (viewOf reading j) r (offerAt (offersOf (viewOf reading j) r) n)) (withoutOffer 28))
       go true t =
-          answered-writable (viewOf j) r (font-small j fits)
+          answered-writable reading (viewOf reading j) r (font-small j fits)
           (request-accepted (j .requests) (fits .requests .1) _ k (ltb-true k (length (j .requests)) t))
-          (offerAt (offersOf (viewOf j) r) n)
+          (offerAt (offersOf (viewOf reading j) r) n)
       go false t = none-writable 28
 
-  pub answer-writable : (k n : ℕ) {a : Answer} → a ≡ answerCall s k n → Writable a
+  pub answer-writable : (k n : ℕ) {a : Answer} → a ≡ answerCall s reading k n → Writable a
   unfolding answerCall jobAnswer
-  answer-writable k n is = rw is (go (readJob s) refl)
+  answer-writable k n is = rw is (either (not (isReading reading) && leb (length s) mostBytes))
     where
-      go : (g : Got Job) → readJob s ≡ g → Writable (jobAnswer g k n)
+      go : (g : Got Job) → readJob s ≡ g → Writable (jobAnswer reading g k n)
       go (refused w p) e = none-writable (number w)
       go (got j p) e = request-writable j (accepted-is-a-layout s bytes j p e .fits) k n
 
+      either : (b : Bool) → Writable (cond b (withoutOffer 25) (jobAnswer reading (readJob s) k n))
+      either true = none-writable 25
+      either false = go (readJob s) refl
+
 -- ---- the call
 
-module _ (s : List ℕ) (k n : ℕ) (out : List ℕ) where
-  pub wrong-length : (length out ≡ recordSize → ⊥) → Calls (offerCall s k n out) 16 out
+module _ (s : List ℕ) (reading k n : ℕ) (out : List ℕ) where
+  pub wrong-length : (length out ≡ recordSize → ⊥) → Calls (offerCall s reading k n out) 16 out
   unfolding offerCall unwritten
   wrong-length h = rw (ne-eqb (length out) recordSize h) (record { result-is = refl; output-is = refl })
 
-  module _ (long : length out ≡ recordSize) {a : Answer} (is : a ≡ answerCall s k n) where
-    pub call-written : offerCall s k n out ≡ written a out
+  module _ (long : length out ≡ recordSize) {a : Answer} (is : a ≡ answerCall s reading k n) where
+    pub call-written : offerCall s reading k n out ≡ written a out
     unfolding offerCall
     call-written = rw (eq-eqb (length out) recordSize long) (ap (λ (x : Answer). written x out) (sym is))
 
     pub record-written : a .result ≡ 0 → {after : List ℕ} → after ≡ recordBytes (a .offer) (a .synthesis) (a .«charmap_index»)
-        → Calls (offerCall s k n out) (a .result) after
+        → Calls (offerCall s reading k n out) (a .result) after
     unfolding written
     record-written z bytes =
-        let w : offerCall s k n out ≡ record { result = 0; output = recordBytes (a .offer) (a .synthesis) (a .«charmap_index») } =
+        let w : offerCall s reading k n out ≡ record { result = 0; output = recordBytes (a .offer) (a .synthesis) (a .«charmap_index») } =
         call-written ∙ rw (eq-eqb (a .result) 0 z) in
         record { result-is = z ∙ sym (ap (λ (x : Called). x .result) w); output-is = bytes ∙ sym (ap (λ (x : Called). x .output) w) }
 
-    pub nothing-written : (a .result ≡ 0 → ⊥) → Calls (offerCall s k n out) (a .result) out
+    pub nothing-written : (a .result ≡ 0 → ⊥) → Calls (offerCall s reading k n out) (a .result) out
     unfolding written unwritten
     nothing-written h =
-        let w : offerCall s k n out ≡ unwritten (a .result) out = call-written ∙ rw (ne-eqb (a .result) 0 h) in
+        let w : offerCall s reading k n out ≡ unwritten (a .result) out = call-written ∙ rw (ne-eqb (a .result) 0 h) in
         record { result-is = sym (ap (λ (x : Called). x .result) w); output-is = sym (ap (λ (x : Called). x .output) w) }
 
   -- "A refusal returns its number and writes nothing": all but 0 leave the output as it was
-  pub kept : (offerCall s k n out .result ≡ 0 → ⊥) → offerCall s k n out .output ≡ out
+  pub kept : (offerCall s reading k n out .result ≡ 0 → ⊥) → offerCall s reading k n out .output ≡ out
   unfolding offerCall written unwritten
-  kept = go (eqb (length out) recordSize) (answerCall s k n)
+  kept = go (eqb (length out) recordSize) (answerCall s reading k n)
     where
       last : (b : Bool) (bytes : List ℕ) (m : ℕ)
           → (cond b (record { result = 0; output = bytes }) (unwritten m out) .result ≡ 0 → ⊥) → cond b (record { result = 0; output = bytes }) (unwritten m out) .output ≡ out

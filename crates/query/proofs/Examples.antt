@@ -11,7 +11,7 @@ use Rattle.font.specs.First.{first}
 use Rattle.font.specs.Tables.{u16At, u32At, startsAsFont, recordCount, recordTag, recordOffset, recordLength, directoryFits, firstRecord, tableOfRecord, findTable, handOut, handedTable, isDamaged}
 use Rattle.font.specs.Collection.{isCollection, headerFits, fontCount, offsetsFit, offsetOf, fontStart}
 use Rattle.font.specs.Charmap.{indexIn, charmapIndex}
-use Rattle.font.specs.Reading.{neededDamaged, losesNeeded}
+use Rattle.font.specs.StatedAttributes.{neededDamaged, losesNeeded}
 use Rattle.font.specs.Font.{hasIndex, refusalAt, fontRefusal}
 use Rattle.query.specs.Reader.{number, done, onward, _>>=_, field, tested, many}
 use Rattle.query.specs.Fields.{byte, half, word, ratio, value, count, counted, byteCounted, heldByte, faceNumber, kind, spareWord, orSpare, fontRow, fontBytes, sizedFile, numberBelow, refusedAt, fontNumber, fontTaken, numbered, fontFile}

@@ -17,7 +17,7 @@ use Rattle.font.specs.declared.overrides.StyleOverride.the-variants as Style
 use Rattle.font.specs.declared.overrides.WeightOverride.the-variants as Weight
 use Rattle.font.specs.Tables.{u16At, u32At}
 use Rattle.font.specs.Collection.{isCollection, headerFits, fontCount}
-use Rattle.font.specs.Reading.{bit}
+use Rattle.font.specs.StatedAttributes.{bit}
 use Rattle.font.specs.Font.{fontRefusal}
 use Rattle.font.proofs.FiniteBits.{accepted-finite}
 use Rattle.query.specs.declared.fields.Behind.{Behind}

@@ -1,7 +1,7 @@
 -- What is loaded of an accepted job, from the walk through it and the rows.
-use Prim.Native.Nat.{ℕ, _+_, _≤_, _<_}
+use Prim.Native.Nat.{ℕ, _+_, _/_, _≤_, _<_}
 use mathlib.Core.Path.{_≡_, refl, sym, ap, _∙_, subst}
-use mathlib.Core.Bool.{Bool}
+use mathlib.Core.Bool.{Bool, true, false}
 use mathlib.Core.List.{List, []}
 use native.Mathlib.Omega.{arith}
 use lib.ListN.{length, getD, List·getD-map, List·getD-eq-default}
@@ -9,8 +9,9 @@ use borrow.Author.Tests.{leb-true}
 use Rattle.font.specs.declared.attributes.Attributes.{Attributes}
 use Rattle.font.specs.declared.font.FontInfo.{FontInfo}
 use Rattle.font.specs.Tables.{u16At}
-use Rattle.font.specs.Font.{fontRefusal}
-use Rattle.font.proofs.FaceOf.{attributes-of-face}
+use Rattle.font.specs.Slant.{isReading}
+use Rattle.font.specs.Font.{fontRefusal, refusalUnder}
+use Rattle.font.proofs.FaceOf.{under-reading, attributes-of-face}
 use Rattle.matching.specs.Matching.{hasAxis, slnt}
 use Rattle.matching.specs.Rows.{rowOf}
 use Rattle.matching.proofs.Ranks.{Tri, low, same, high, tri}
@@ -23,9 +24,8 @@ use Rattle.query.specs.Entries.{Face, Override, Family, readFace, readOv
 use Rattle.query.specs.Job.{Job, readJob, checkJob, jobIn, jobOf}
 use Rattle.query.specs.Positions.{LiesAt, WalkAnswer}
 use Rattle.query.specs.Values.{faceAt}
-use Rattle.query.specs.View.{afterOverrides, entryOf, statedBy, viewOf}
-use Rattle.query.specs.Offers.{membersOf}
-use Rattle.query.specs.CallTables.{marks, attributesIn, axisIn, rowAt, rowsAfter, beginOf, nowhere, FacesLie, EntryRow, RowsAt, RowsOverridden, RowIn, FamilyIn, Room, LoadAnswer}
+use Rattle.query.specs.View.{afterOverrides, entryOf, statedBy, familiesOf, viewBy, viewOf}
+use Rattle.query.specs.CallTables.{marks, attributesIn, axisIn, rowAt, rowsAfter, beginOf, nowhere, FacesLie, EntryRow, RowsAt, RowsOverridden, RowIn, RowShows, membersIn, FamilyIn, Room, LoadAnswer}
 use Rattle.query.proofs.Ends.{then-got}
 use Rattle.query.proofs.Leaves.{count-read, counted-length}
 use Rattle.query.proofs.Checks.{accepted, job-read, sections-read}
@@ -53,6 +53,14 @@ counted-at limit r s p xs lies =
       inside = number .inside;
       entries = counted-lies limit r s p xs lies;
     }
+
+-- where the entry of a face begins, from the marks of its row
+mark-entry : (b c : Bool) (entry : ℕ) → marks entry b c / 4 ≡ entry
+unfolding marks
+mark-entry true true entry = omega arith
+mark-entry true false entry = omega arith
+mark-entry false true entry = omega arith
+mark-entry false false entry = omega arith
 
 -- what stands past the families
 abbrev noFamily : Family
@@ -116,63 +124,74 @@ module _ {s : List ℕ} {w : Walked} {before families : List ℕ} {asked : ℕ} 
 
     -- ---- the rows
 
-    module _ {m : ℕ} {old rows after : List (List ℕ)} (faces : RowsAt s 2 n old rows) (room : Room s old)
+    module _ {reading m : ℕ} (read-as : isReading reading ≡ true) {old rows after : List (List ℕ)} (faces : RowsAt reading s 2 n old rows) (room : Room s old)
         (overridden : RowsOverridden s (w .overrides + 2) m rows after) (number : m ≡ u16At s (w .overrides)) where
       rows-after : after ≡ rowsAfter (jobOf s .overrides) rows
       rows-after =
           overridden .are (length (jobOf s .faces)) (jobOf s .overrides) (omega (arith, faces .long)) (rw number (section .entries))
 
-      row-in : (i : ℕ) → i < length (jobOf s .faces) → RowIn s (viewOf (jobOf s)) i (getD after i [])
-      unfolding attributesIn rowAt statedBy viewOf
-      row-in i l =
-          record {
-            entry = p;
-            is =
-                ap (λ (xs : List (List ℕ)). getD xs i []) rows-after ∙ row-after os rows i f _ (omega (arith, faces .long)) stated
-                ∙ ap (λ (b : Bool). rowOf (afterOverrides os i f .attributes) (marks p (faceAt s p .held) b)) slant ∙ ap seen (there .face-is);
-            face = there .face-is;
-            taken = taken;
-            inside = there .inside;
-          }
-        where
-          there : EntryRow s (entryOf (jobOf s .faces) i) (getD rows i [])
-          there = faces .each (jobOf s .faces) lie i (omega (arith, faces-number))
+      module _ (i : ℕ) (l : i < length (jobOf s .faces)) where
+        there : EntryRow reading s (entryOf (jobOf s .faces) i) (getD rows i [])
+        there = faces .each (jobOf s .faces) lie i (omega (arith, faces-number))
 
-          p : ℕ
-          p = there .entry
+        p : ℕ
+        p = there .entry
 
-          font : NumberedFont
-          font = faceAt s p .font
+        font : NumberedFont
+        font = faceAt s p .font
 
-          os : List Override
-          os = jobOf s .overrides
+        os : List Override
+        os = jobOf s .overrides
 
-          f : FontInfo
-          f = statedBy font
+        f : FontInfo
+        f = statedBy reading font
 
-          taken : fontRefusal (font .file) (font .number) ≡ 0
-          taken = ap (λ (x : Face). fontRefusal (x .font .file) (x .font .number)) (there .face-is) ∙ there .taken
+        taken : fontRefusal (font .file) (font .number) ≡ 0
+        taken = ap (λ (x : Face). fontRefusal (x .font .file) (x .font .number)) (there .face-is) ∙ there .taken
 
-          -- before the overrides
-          stated : getD rows i [] ≡ rowOf (f .attributes) (marks p (faceAt s p .held) (axisIn font slnt))
-          stated =
-              there .is
-              ∙ ap (λ (a : Attributes). rowOf a (marks p (faceAt s p .held) (axisIn font slnt))) (attributes-of-face (font .file) (font .number) taken)
+        taken-under : refusalUnder reading (font .file) (font .number) ≡ 0
+        taken-under = under-reading reading (font .file) (font .number) read-as ∙ taken
 
-          slant : axisIn font slnt ≡ hasAxis (afterOverrides os i f) slnt
-          slant = stated-axis font slnt taken ∙ sym (after-axis os i f slnt)
+        -- before the overrides
+        stated : getD rows i [] ≡ rowOf (f .attributes) (marks p (faceAt s p .held) (axisIn font slnt))
+        stated =
+            there .is
+            ∙ ap (λ (a : Attributes). rowOf a (marks p (faceAt s p .held) (axisIn font slnt))) (attributes-of-face reading (font .file) (font .number) taken-under)
 
-          -- the row of the face i by its entry
-          seen : Face → List ℕ
-          seen x =
-              rowOf (afterOverrides os i (statedBy (x .font)) .attributes)
-              (marks p (x .held) (hasAxis (afterOverrides os i (statedBy (x .font))) slnt))
+        slant : axisIn font slnt ≡ hasAxis (afterOverrides os i f) slnt
+        slant = stated-axis reading font slnt taken-under ∙ sym (after-axis os i f slnt)
+
+        -- the row of the face i by its entry
+        seen : Face → List ℕ
+        seen x =
+            rowOf (afterOverrides os i (statedBy reading (x .font)) .attributes)
+            (marks p (x .held) (hasAxis (afterOverrides os i (statedBy reading (x .font))) slnt))
+
+        row-is : getD after i [] ≡ rowOf (afterOverrides os i f .attributes) (marks p (faceAt s p .held) (hasAxis (afterOverrides os i f) slnt))
+        row-is =
+            ap (λ (xs : List (List ℕ)). getD xs i []) rows-after ∙ row-after os rows i f _ (omega (arith, faces .long)) stated
+            ∙ ap (λ (b : Bool). rowOf (afterOverrides os i f .attributes) (marks p (faceAt s p .held) b)) slant
+
+        row-in : RowIn s i (getD after i [])
+        unfolding rowOf
+        row-in =
+            record {
+              entry = p;
+              told = ap (λ (r : List ℕ). getD r 4 0 / 4) row-is ∙ mark-entry _ _ p;
+              face = there .face-is;
+              taken = taken;
+              inside = there .inside;
+            }
+
+        row-shows : RowShows (viewOf reading (jobOf s)) i (getD after i [])
+        unfolding viewOf viewBy
+        row-shows = record { entry = p; is = row-is ∙ ap seen (there .face-is) }
 
       -- ---- the families
 
       module _ (places : length families ≡ mostFamilies) (fresh : (k : ℕ) → k < mostFamilies → getD before k 0 ≡ nowhere) where
-        members-are : (k : ℕ) → membersOf (viewOf (jobOf s)) k ≡ getD (jobOf s .families) k noFamily .members
-        unfolding membersOf viewOf
+        members-are : (k : ℕ) → membersIn s k ≡ getD (jobOf s .families) k noFamily .members
+        unfolding familiesOf
         members-are k = List·getD-map (λ (m : Family). m .members) (jobOf s .families) k noFamily
 
         past-families : (k : ℕ) → k < mostFamilies → length (jobOf s .families) ≤ k
@@ -190,10 +209,10 @@ module _ {s : List ℕ} {w : Walked} {before families : List ℕ} {asked : ℕ} 
         family-there k l (same h) = past-families k l (omega arith)
         family-there k l (high h) = past-families k l (omega arith)
 
-        there : (k : ℕ) → k < mostFamilies → FamilyIn s (getD families k 0) (length (jobOf s .faces)) (membersOf (viewOf (jobOf s)) k)
-        there k l = rw (members-are k) (family-there k l (tri k (length (jobOf s .families))))
+        lies-there : (k : ℕ) → k < mostFamilies → FamilyIn s (getD families k 0) (length (jobOf s .faces)) (membersIn s k)
+        lies-there k l = rw (members-are k) (family-there k l (tri k (length (jobOf s .families))))
 
-        pub loads : LoadAnswer s w after families asked
+        pub loads : LoadAnswer reading s w after families asked
         loads =
             record {
               checked = walks .checked;
@@ -203,10 +222,11 @@ module _ {s : List ℕ} {w : Walked} {before families : List ℕ} {asked : ℕ} 
                     room = omega (arith, overridden .long, faces .long);
                     row = row-in;
                     long = places;
-                    family = λ k l. (let begins : beginOf (getD families k 0) ≡ getD families k 0 = omega (arith, there k l .low) in rw begins (there k l));
+                    family = λ k l. (let begins : beginOf (getD families k 0) ≡ getD families k 0 = omega (arith, lies-there k l .low) in rw begins (lies-there k l));
                     known = parts .known;
                   };
-              uncounted = λ y k l. there k l .low;
+              shown = λ y. row-shows;
+              uncounted = λ y k l. lies-there k l .low;
               overrides = λ y. walks .begins z .override;
               requests = λ y. walks .begins z .requests;
               request = λ d y l.
@@ -216,12 +236,13 @@ module _ {s : List ℕ} {w : Walked} {before families : List ℕ} {asked : ℕ} 
 
 -- ---- a refused job
 
-pub loads-nothing : {s : List ℕ} {w : Walked} {before families : List ℕ} {asked : ℕ} {rows : List (List ℕ)}
-    → WalkAnswer s w before families asked → (w .refusal ≡ 0 → ⊥) → LoadAnswer s w rows families asked
+pub loads-nothing : {reading : ℕ} {s : List ℕ} {w : Walked} {before families : List ℕ} {asked : ℕ} {rows : List (List ℕ)}
+    → WalkAnswer s w before families asked → (w .refusal ≡ 0 → ⊥) → LoadAnswer reading s w rows families asked
 loads-nothing walks h =
     record {
       checked = walks .checked;
       loaded = λ y. absurd (h y);
+      shown = λ y. absurd (h y);
       uncounted = λ y. absurd (h y);
       overrides = λ y. absurd (h y);
       requests = λ y. absurd (h y);

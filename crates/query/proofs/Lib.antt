@@ -51,3 +51,4 @@ pub mod CursorSteps
 pub mod Demands
 -- As for a lone font with the same tables.
 pub mod LoneFonts
+pub mod TwoReadings

@@ -5,13 +5,16 @@ use mathlib.Core.Bool.{Bool, true, false, cond}
 use mathlib.Core.List.{List, [], _∷_, _++_, map}
 use native.Mathlib.Omega.{arith}
 use lib.Dec.{ltb, eqb, lit<}
+use borrow.Author.Tests.{le-leb}
 use lib.ListN.{length, getD, take, drop, length-map, List·getD-map}
 use Rattle.font.specs.declared.font.FontInfo.{FontInfo}
+use Rattle.font.specs.Slant.{isReading}
 use Rattle.font.specs.Overrides.{withOverride}
 use Rattle.font.specs.LookedAt.{subtableAt, MovedWithCmap}
 use Rattle.font.specs.Tables.{u16At, u32At}
 use Rattle.font.specs.Collection.{isCollection}
 use Rattle.font.specs.Font.{fontRefusal}
+use Rattle.font.proofs.FaceOf.{under-reading}
 use Rattle.font.proofs.SameFonts as SameFonts
 use Rattle.font.proofs.SameFonts.{same-font, subtables, directory, lone, collection}
 use Rattle.matching.specs.declared.order.Request as Matching
@@ -21,19 +24,19 @@ use Rattle.query.specs.declared.answer.Offer.{Offer}
 use Rattle.query.specs.declared.answer.Answer.{Answer}
 use Rattle.query.specs.declared.offers.Offered.{Offered}
 use Rattle.query.specs.declared.offers.Offered.the-variants.{At, Past}
-use Rattle.query.specs.Sizes.{recordSize}
+use Rattle.query.specs.Sizes.{recordSize, mostBytes}
 use Rattle.query.specs.Entries.{Face, Override, Family, Request}
 use Rattle.query.specs.Job.{Job}
 use Rattle.query.specs.Layout.{bytes8, bytes16, bytes32, each, after16, layoutNumber, layoutFont, layoutFace, layoutFamily, layout, Every, Fits16, Fits32, FaceFits, FamilyFits, JobFits}
-use Rattle.query.specs.View.{View, overriddenBy, afterOverrides, noEntry, entryOf, statedBy, viewOf}
+use Rattle.query.specs.View.{View, overriddenBy, afterOverrides, noEntry, entryOf, statedBy, familiesOf, viewBy, viewOf}
 use Rattle.query.specs.Offers.{pick, offerOf, membersOf, facesOf, heldIn, faceOfOffer, synthesisOfOffer, numberOffers, inTurn, offers, offersOf, offerAt}
 use Rattle.query.specs.Record.{headBytes, slotBytes, slotAt, indexBytes, recordBytes}
-use Rattle.query.specs.Call.{withoutOffer, withSynthesis, answered, requestOfJob, requestAnswer, answerCall, written, unwritten, Called, offerCall}
+use Rattle.query.specs.Call.{withoutOffer, withSynthesis, answered, requestOfJob, viewAnswer, requestAnswer, answerCall, written, unwritten, Called, offerCall}
 use Rattle.query.specs.Demands.{familyAt}
 use Rattle.query.specs.LoneFonts.{SameEntry, SameEntries, none, more, SameJobs, fontOfOffer, AnswersAlike, CallsAlike, AnsweredAlike}
 use Rattle.query.proofs.AcceptedJobs.{layout-is-accepted}
 use Rattle.query.proofs.SoundOffers.{Sound, offers-sound}
-use Rattle.query.proofs.AnswerCases.{called, kept-index}
+use Rattle.query.proofs.AnswerCases.{no-reading, called, kept-index}
 
 -- ---- the offers do not look at where a charmap subtable lies
 
@@ -59,7 +62,7 @@ module _ (at : ℕ → ℕ) (view : View) where
   unfolding placed numberOffers heldIn membersOf
   number-same request f = rw (family-same f)
 
-  turns-same : (request : Matching.Request) (numbers : List ℕ) → inTurn (placed at view) request numbers ≡ inTurn view request numbers
+  turns-same : (request : Matching.Request) (numbers : List ℕ) → inTurn (numberOffers (placed at view) request) numbers ≡ inTurn (numberOffers view request) numbers
   unfolding inTurn
   turns-same request [] = refl
   turns-same request (f ∷ fs) = λ k. map (offerOf f) (number-same request f k) ++ turns-same request fs k
@@ -85,19 +88,20 @@ abbrev subtable : FontInfo → ℕ
 subtable f = f .«charmap_index» .«subtable_offset»
 
 -- two entries that give one face but for that
-record Seen (a b : Face) : Type 0 where
+record Seen (reading : ℕ) (a b : Face) : Type 0 where
   held : a .held ≡ b .held
-  face : statedBy (a .font) ≡ subtableAt (subtable (statedBy (a .font))) (statedBy (b .font))
+  face : statedBy reading (a .font) ≡ subtableAt (subtable (statedBy reading (a .font))) (statedBy reading (b .font))
 
-seen : {a b : Face} → SameEntry a b → Seen a b
+seen : (reading : ℕ) {a b : Face} → SameEntry a b → Seen reading a b
 unfolding statedBy
-seen {a} {b} h = record { held = h .held; face = same-font (a .font .file) (a .font .number) (b .font .file) (b .font .number) (h .font) .face }
+seen reading {a} {b} h =
+    record { held = h .held; face = same-font (a .font .file) (a .font .number) (b .font .file) (b .font .number) (h .font) .face reading }
 
-seen-at : {es gs : List Face} → SameEntries es gs → (x : ℕ) → Seen (entryOf es x) (entryOf gs x)
+seen-at : (reading : ℕ) {es gs : List Face} → SameEntries es gs → (x : ℕ) → Seen reading (entryOf es x) (entryOf gs x)
 unfolding entryOf subtableAt
-seen-at none x = record { held = refl; face = refl }
-seen-at (more h r) zero = seen h
-seen-at (more h r) (suc x) = seen-at r x
+seen-at reading none x = record { held = refl; face = refl }
+seen-at reading (more h r) zero = seen reading h
+seen-at reading (more h r) (suc x) = seen-at reading r x
 
 -- ---- what an offer names
 
@@ -115,18 +119,19 @@ entry-at (more h r) (suc x) l = let e = entry-at r x (omega arith) in (omega ari
 
 -- the number of the face that an offer names
 abbrev named : Job → Offer → ℕ
-named job o = getD (membersOf (viewOf job) (o .family)) (o .place) 0
+named job o = getD (getD (familiesOf job) (o .family) []) (o .place) 0
 
 -- it is one of the job's
-named-known : (job : Job) → JobFits job → (request : Matching.Request) (o : Offer) → Sound (viewOf job) request o → named job o < length (job .faces)
-unfolding viewOf membersOf
-named-known job fits request o h =
+named-known : (reading : ℕ) (job : Job) → JobFits job → (request : Matching.Request) (o : Offer) → Sound (viewOf reading job) request o
+    → named job o < length (job .faces)
+unfolding viewOf viewBy familiesOf membersOf
+named-known reading job fits request o h =
     let n = length (job .faces) in
     let none : Family = record { members = [] } in
     let there : o .family < length (job .families) = omega (arith, h .0, length-map (job .families) (λ (m : Family). m .members)) in
     let family = every-in (FamilyFits n) none (job .families) (fits .families .1) (o .family) there in
     let same = List·getD-map (λ (m : Family). m .members) (job .families) (o .family) none in
-    every-in (λ i. (i < n) × Fits16 i) 0 (membersOf (viewOf job) (o .family)) (rw same (family .members)) (o .place) (h .1) .0
+    every-in (λ i. (i < n) × Fits16 i) 0 (getD (familiesOf job) (o .family) []) (rw same (family .members)) (o .place) (h .1) .0
 
 -- the offer of a number is one of the list, or lies past it
 module _ (P : Offer → Type 0) (Q : Offered → Type 0) (found : (o : Offer) → P o → Q (At o)) (past : Q Past) where
@@ -165,46 +170,47 @@ written-alike {a = a} {b = b} h out = rw (h .result) (go (eqb (b .result) 0))
 
 -- ---- two such jobs
 
-module _ (i j : Job) (fits-i : JobFits i) (fits-j : JobFits j) (same : SameJobs i j) where
+module _ (i j : Job) (fits-i : JobFits i) (fits-j : JobFits j) (same : SameJobs i j) (reading : ℕ) where
   abbrev lies : ℕ → ℕ
-  lies x = subtable (statedBy (entryOf (i .faces) x .font))
+  lies x = subtable (statedBy reading (entryOf (i .faces) x .font))
 
-  font-same : (x : ℕ) → viewOf i .font x ≡ subtableAt (lies x) (viewOf j .font x)
-  unfolding viewOf
+  font-same : (x : ℕ) → viewOf reading i .font x ≡ subtableAt (lies x) (viewOf reading j .font x)
+  unfolding viewOf viewBy
   font-same x =
-      ap (λ (os : List Override). afterOverrides os x (statedBy (entryOf (i .faces) x .font))) (same .overrides)
-      ∙ ap (afterOverrides (j .overrides) x) (seen-at (same .faces) x .face)
-      ∙ overrides-keep (j .overrides) x (lies x) (statedBy (entryOf (j .faces) x .font))
+      ap (λ (os : List Override). afterOverrides os x (statedBy reading (entryOf (i .faces) x .font))) (same .overrides)
+      ∙ ap (afterOverrides (j .overrides) x) (seen-at reading (same .faces) x .face)
+      ∙ overrides-keep (j .overrides) x (lies x) (statedBy reading (entryOf (j .faces) x .font))
 
-  view-same : viewOf i ≡ placed lies (viewOf j)
-  unfolding viewOf placed
+  view-same : viewOf reading i ≡ placed lies (viewOf reading j)
+  unfolding viewOf viewBy familiesOf placed
   view-same =
       λ k.
       record {
         font = λ x. font-same x k;
-        held = λ x. seen-at (same .faces) x .held k;
+        held = λ x. seen-at reading (same .faces) x .held k;
         families = map (λ (m : Family). m .members) (same .families k);
       }
 
   -- the face x: its subtable is moved as its `cmap`
-  moved : (x : ℕ) → x < length (j .faces)
+  moved : isReading reading ≡ true → (x : ℕ) → x < length (j .faces)
       → MovedWithCmap (entryOf (i .faces) x .font .file) (entryOf (i .faces) x .font .number) (entryOf (j .faces) x .font .file) (entryOf (j .faces) x .font .number) (lies x)
-      (subtable (viewOf j .font x))
-  unfolding viewOf entryOf statedBy
-  moved x l =
+      (subtable (viewOf reading j .font x))
+  unfolding viewOf viewBy entryOf statedBy
+  moved known x l =
       let e = entry-at (same .faces) x l in
-      rw (kept-index (j .overrides) x (statedBy (entryOf (j .faces) x .font)))
-      (same-font _ _ _ _ (e .1 .font) .offset (every-in FaceFits noEntry (i .faces) (fits-i .faces .1) x (e .0) .taken))
+      let taken = every-in FaceFits noEntry (i .faces) (fits-i .faces .1) x (e .0) .taken in
+      rw (kept-index (j .overrides) x (statedBy reading (entryOf (j .faces) x .font)))
+      (same-font _ _ _ _ (e .1 .font) .offset reading (under-reading reading _ _ known ∙ taken))
 
   -- one place of one family names the face of one number in both
   named-same : (o : Offer) → named i o ≡ named j o
-  unfolding viewOf membersOf
+  unfolding familiesOf
   named-same o = ap (λ (fs : List Family). getD (getD (map (λ (m : Family). m .members) fs) (o .family) []) (o .place) 0) (same .families)
 
-  at-alike : (r : Request) (o : Offer) → named j o < length (j .faces)
-      → AnswersAlike i j (answered (placed lies (viewOf j)) r (At o)) (answered (viewOf j) r (At o))
-  unfolding answered withSynthesis synthesisOfOffer faceOfOffer membersOf placed subtableAt variesOf hasAxis axisPlace axisCount axisAt fontOfOffer
-  at-alike r o known = go (eqb (synthesisOfOffer (viewOf j) r o .refusal) 29)
+  at-alike : isReading reading ≡ true → (r : Request) (o : Offer) → named j o < length (j .faces)
+      → AnswersAlike i j (answered reading (placed lies (viewOf reading j)) r (At o)) (answered reading (viewOf reading j) r (At o))
+  unfolding answered withSynthesis synthesisOfOffer faceOfOffer membersOf viewOf viewBy placed subtableAt variesOf hasAxis axisPlace axisCount axisAt fontOfOffer
+  at-alike reads r o known = go (eqb (synthesisOfOffer (viewOf reading j) reading r o .refusal) 29)
     where
       answer : Bool → ℕ → Answer
       answer b at =
@@ -212,37 +218,37 @@ module _ (i j : Job) (fits-i : JobFits i) (fits-j : JobFits j) (same : SameJobs 
           (record {
             result = 0;
             offer = o;
-            synthesis = synthesisOfOffer (viewOf j) r o;
-            «charmap_index» = subtableAt at (faceOfOffer (viewOf j) o) .«charmap_index»;
+            synthesis = synthesisOfOffer (viewOf reading j) reading r o;
+            «charmap_index» = subtableAt at (faceOfOffer (viewOf reading j) o) .«charmap_index»;
           })
 
-      go : (b : Bool) → AnswersAlike i j (answer b (lies (named j o))) (answer b (subtable (faceOfOffer (viewOf j) o)))
+      go : (b : Bool) → AnswersAlike i j (answer b (lies (named j o))) (answer b (subtable (faceOfOffer (viewOf reading j) o)))
       go true = none-alike i j 29 (λ z. omega (arith, z))
       go false =
-          record { result = refl; offer = refl; synthesis = refl; symbol = refl; roman = refl; offset = λ z. rw (named-same o, fontOfOffer) (moved (named j o) known) }
+          record { result = refl; offer = refl; synthesis = refl; symbol = refl; roman = refl; offset = λ z. rw (named-same o, fontOfOffer) (moved reads (named j o) known) }
 
-  past-alike : (r : Request) → AnswersAlike i j (answered (placed lies (viewOf j)) r Past) (answered (viewOf j) r Past)
+  past-alike : (r : Request) → AnswersAlike i j (answered reading (placed lies (viewOf reading j)) r Past) (answered reading (viewOf reading j) r Past)
   unfolding answered
   past-alike r = none-alike i j 1 (λ z. omega (arith, z))
 
   module _ (k n : ℕ) where
     abbrev list : List Offer
-    list = offersOf (viewOf j) (requestOfJob j k)
+    list = offersOf (viewOf reading j) (requestOfJob j k)
 
     request-same : requestOfJob i k ≡ requestOfJob j k
     unfolding requestOfJob
     request-same = rw (same .requests)
 
-    list-same : offersOf (viewOf i) (requestOfJob i k) ≡ list
-    list-same = (λ m. offersOf (view-same m) (request-same m)) ∙ offers-same lies (viewOf j) (requestOfJob j k)
+    list-same : offersOf (viewOf reading i) (requestOfJob i k) ≡ list
+    list-same = (λ m. offersOf (view-same m) (request-same m)) ∙ offers-same lies (viewOf reading j) (requestOfJob j k)
 
-    answer-same : requestAnswer i k n ≡ cond (ltb k (length (j .requests))) (answered (placed lies (viewOf j)) (requestOfJob j k) (offerAt list n)) (withoutOffer 28)
-    unfolding requestAnswer
-    answer-same = λ m. cond (ltb k (length (same .requests m))) (answered (view-same m) (request-same m) (offerAt (list-same m) n)) (withoutOffer 28)
+    answer-same : requestAnswer reading i k n ≡ cond (ltb k (length (j .requests))) (answered reading (placed lies (viewOf reading j)) (requestOfJob j k) (offerAt list n)) (withoutOffer 28)
+    unfolding requestAnswer viewAnswer
+    answer-same = λ m. cond (ltb k (length (same .requests m))) (answered reading (view-same m) (request-same m) (offerAt (list-same m) n)) (withoutOffer 28)
 
-    request-alike : AnswersAlike i j (requestAnswer i k n) (requestAnswer j k n)
-    unfolding requestAnswer offersOf
-    request-alike = subst (λ (a : Answer). AnswersAlike i j a (requestAnswer j k n)) (sym answer-same) (go (ltb k (length (j .requests))))
+    request-alike : isReading reading ≡ true → AnswersAlike i j (requestAnswer reading i k n) (requestAnswer reading j k n)
+    unfolding requestAnswer viewAnswer offersOf
+    request-alike reads = subst (λ (a : Answer). AnswersAlike i j a (requestAnswer reading j k n)) (sym answer-same) (go (ltb k (length (j .requests))))
       where
         r : Request
         r = requestOfJob j k
@@ -251,36 +257,50 @@ module _ (i j : Job) (fits-i : JobFits i) (fits-j : JobFits j) (same : SameJobs 
         wanted = requestOf (r .attributes) true
 
         go : (b : Bool)
-            → AnswersAlike i j (cond b (answered (placed lies (viewOf j)) r (offerAt list n)) (withoutOffer 28)) (cond b (answered (viewOf j) r (offerAt list n)) (withoutOffer 28))
+            → AnswersAlike i j (cond b (answered reading (placed lies (viewOf reading j)) r (offerAt list n)) (withoutOffer 28)) (cond b (answered reading (viewOf reading j) r (offerAt list n)) (withoutOffer 28))
         go true =
-            offered-in (Sound (viewOf j) wanted) (λ q. AnswersAlike i j (answered (placed lies (viewOf j)) r q) (answered (viewOf j) r q))
-            (λ o h. at-alike r o (named-known j fits-j wanted o h))
+            offered-in (Sound (viewOf reading j) wanted) (λ q. AnswersAlike i j (answered reading (placed lies (viewOf reading j)) r q) (answered reading (viewOf reading j) r q))
+            (λ o h. at-alike reads r o (named-known reading j fits-j wanted o h))
             (past-alike r)
             list
-            (offers-sound (viewOf j) wanted (r .most) (r .families) (r .fallbacks))
+            (offers-sound (viewOf reading j) wanted (r .most) (r .families) (r .fallbacks))
             n
         go false = none-alike i j 28 (λ z. omega (arith, z))
 
-    answers-alike : AnswersAlike i j (answerCall (layout i) k n) (answerCall (layout j) k n)
-    answers-alike =
-        rw (called (layout i) k n i _ (layout-is-accepted i fits-i), called (layout j) k n j _ (layout-is-accepted j fits-j)) request-alike
+    -- a value that is no reading is refused by both
+    none-read : (job : Job) → JobFits job → isReading reading ≡ false → answerCall (layout job) reading k n ≡ withoutOffer 25
+    none-read job fits none =
+        sym (no-reading (layout job) reading none k n) ∙ ap (λ (b : Bool). withoutOffer (cond b 25 17)) (le-leb (length (layout job)) mostBytes (fits .bytes))
 
-    calls-alike : (out : List ℕ) → CallsAlike (offerCall (layout i) k n out) (offerCall (layout j) k n out)
+    answers-alike : AnswersAlike i j (answerCall (layout i) reading k n) (answerCall (layout j) reading k n)
+    answers-alike = go (isReading reading) refl
+      where
+        go : (b : Bool) → isReading reading ≡ b → AnswersAlike i j (answerCall (layout i) reading k n) (answerCall (layout j) reading k n)
+        go true e =
+            rw (called (layout i) reading e k n i _ (layout-is-accepted i fits-i), called (layout j) reading e k n j _ (layout-is-accepted j fits-j)) (request-alike e)
+        go false e = rw (none-read i fits-i e, none-read j fits-j e) (none-alike i j 25 (λ z. omega (arith, z)))
+
+    calls-alike : (out : List ℕ) → CallsAlike (offerCall (layout i) reading k n out) (offerCall (layout j) reading k n out)
     unfolding offerCall
     calls-alike out = go (eqb (length out) recordSize)
       where
         called-by : Job → Bool → Called
-        called-by job z = cond z (written (answerCall (layout job) k n) out) (unwritten 16 out)
+        called-by job z = cond z (written (answerCall (layout job) reading k n) out) (unwritten 16 out)
 
         go : (z : Bool) → CallsAlike (called-by i z) (called-by j z)
         go true = written-alike answers-alike out
         go false = record { result = refl; before = refl; behind = refl }
 
-  order-same : (f : ℕ) → familyAt i f ≡ familyAt j f
-  order-same f = (λ m. familyOf (facesOf (view-same m) f) (length (facesOf (view-same m) f))) ∙ family-same lies (viewOf j) f
+  order-same : (f : ℕ) → familyAt reading i f ≡ familyAt reading j f
+  order-same f = (λ m. familyOf (facesOf (view-same m) f) (length (facesOf (view-same m) f))) ∙ family-same lies (viewOf reading j) f
 
-  pub lone-fonts : AnsweredAlike i j
-  lone-fonts = record { order = order-same; answers = answers-alike; calls = calls-alike }
+pub lone-fonts : (i j : Job) → JobFits i → JobFits j → SameJobs i j → AnsweredAlike i j
+lone-fonts i j fits-i fits-j same =
+    record {
+      order = order-same i j fits-i fits-j same;
+      answers = answers-alike i j fits-i fits-j same;
+      calls = calls-alike i j fits-i fits-j same;
+    }
 
 -- ---- an example: a job of one face, which is a collection's font or a lone font with the same table
 

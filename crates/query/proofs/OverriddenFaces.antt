@@ -13,7 +13,7 @@ use Rattle.font.specs.declared.font.FontInfo.{FontInfo}
 use Rattle.font.specs.declared.overrides.FontInfoOverride.{FontInfoOverride}
 use Rattle.font.specs.First.{tabulate}
 use Rattle.font.specs.Tables.{u32At}
-use Rattle.font.specs.Font.{fontRefusal}
+use Rattle.font.specs.Font.{refusalUnder}
 use Rattle.font.specs.Overrides.{overridden, axisOf, firstAxis, pairCount, setDefaults, withAxes, withDefaults, withOverride}
 use Rattle.font.proofs.Defaults.{withPair, one-more-pair, same-axis}
 use Rattle.font.proofs.FaceOf.{few-axes, stated}
@@ -124,10 +124,11 @@ after-axis [] i f tag = refl
 after-axis (o ∷ os) i f tag = after-axis os i (afterOne o i f) tag ∙ kept-axis (eqb (o .face) i) o f tag
 
 -- the axes that a font file states are those of its face
-pub stated-axis : (font : NumberedFont) (tag : ℕ) → fontRefusal (font .file) (font .number) ≡ 0 → axisIn font tag ≡ hasAxis (statedBy font) tag
+pub stated-axis : (reading : ℕ) (font : NumberedFont) (tag : ℕ) → refusalUnder reading (font .file) (font .number) ≡ 0
+    → axisIn font tag ≡ hasAxis (statedBy reading font) tag
 unfolding axisIn statedBy
-stated-axis font tag z =
-    let f = statedBy font in
-    let few = few-axes (font .file) (font .number) in
+stated-axis reading font tag z =
+    let f = statedBy reading font in
+    let few = few-axes reading (font .file) (font .number) in
     let all : f .«axis_count» ≡ min (f .«axis_count») 16 = omega arith in
-    stated (font .file) (font .number) tag z ∙ ap (λ (n : ℕ). ltb (firstAxis (f .axes) n tag) n) all ∙ sym (among f tag)
+    stated reading (font .file) (font .number) tag z ∙ ap (λ (n : ℕ). ltb (firstAxis (f .axes) n tag) n) all ∙ sym (among f tag)

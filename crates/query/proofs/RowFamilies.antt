@@ -7,7 +7,7 @@ use native.Mathlib.Omega.{arith}
 use lib.Dec.{ltb, eqb}
 use lib.ListN.{length, getD, set, length-map, length-set, List·getD-eq-default}
 use lib.Seq.{getD-set-same, getD-set-other}
-use borrow.Author.Tests.{lt-ltb, le-ltb, eq-eqb, ne-eqb, ltb-false}
+use borrow.Author.Tests.{lt-ltb, eq-eqb, ne-eqb, ltb-true, ltb-false}
 use Rattle.font.specs.Tables.{u16At}
 use Rattle.font.specs.declared.attributes.Attributes.{Attributes}
 use Rattle.matching.specs.declared.order.Request.{Request}
@@ -18,10 +18,10 @@ use Rattle.matching.proofs.Ranks.{Tri, low, same, high, tri}
 use Rattle.query.specs.Sizes.{mostFamilies}
 use Rattle.query.specs.Entries.{Family}
 use Rattle.query.specs.Job.{jobOf}
-use Rattle.query.specs.View.{View, viewOf}
+use Rattle.query.specs.View.{View, familiesOf, viewBy, viewOf}
 use Rattle.query.specs.Offers.{familyOffers, membersOf, facesOf, heldIn, numberOffers}
-use Rattle.query.specs.CallTables.{marks, isHeld, heldRow, beginOf, knownOf, Uncounted, RowIn, FamilyIn, TablesOf}
-use Rattle.query.specs.Listed.{MembersKnown, membersAt, offersAt, Counted}
+use Rattle.query.specs.CallTables.{marks, isHeld, heldRow, beginOf, knownOf, Uncounted, membersIn, FamilyIn, TablesOf, RowsShow}
+use Rattle.query.specs.Listed.{MembersKnown, membersAt, offersAt, rowFamily, rowHeld, rowOffers, Counted}
 use Rattle.query.proofs.Members.{number-of}
 use Rattle.query.proofs.FamilyLists.{offers-few, offers-same, none-offered}
 
@@ -71,20 +71,21 @@ number-offers view request f = go (ltb f (length (view .families))) refl
 -- ---- families of a job, by its rows
 
 module _ {s : List ℕ} {rows : List (List ℕ)} {families : List ℕ} (loaded : TablesOf s rows families) where
-  abbrev view : View
-  view = viewOf (jobOf s)
+  no-members : (f : ℕ) → mostFamilies ≤ f → membersIn s f ≡ []
+  unfolding familiesOf
+  no-members f l =
+      List·getD-eq-default (familiesOf (jobOf s)) [] (omega (arith, loaded .known, length-map (jobOf s .families) (λ (m : Family). m .members)))
 
-  pub unknown-number : (request : Request) (f : ℕ) → mostFamilies ≤ f → numberOffers view request f ≡ []
-  unfolding numberOffers viewOf
-  unknown-number request f l =
-      rw (le-ltb f (length (view .families)) (omega (arith, loaded .known, length-map (jobOf s .families) (λ (m : Family). m .members)))) refl
+  pub unknown-number : (request : Request) (f : ℕ) → mostFamilies ≤ f → rowOffers s rows request f ≡ []
+  unfolding rowOffers rowFamily
+  unknown-number request f l = none-offered (rowFamily s rows f) (rowHeld s rows f) request (ap length (no-members f l))
 
   module _ (f : ℕ) (below : f < mostFamilies) where
     abbrev at : ℕ
     at = beginOf (getD families f 0)
 
     abbrev members : List ℕ
-    members = membersOf view f
+    members = membersIn s f
 
     lies : FamilyIn s at (length (jobOf s .faces)) members
     lies = loaded .family f below
@@ -98,43 +99,21 @@ module _ {s : List ℕ} {rows : List (List ℕ)} {families : List ℕ} (loaded :
         }
 
     -- the row of a place is that of the family's face there
-    row-at : (i : ℕ) → i < length members → RowIn s view (getD members i 0) (placeRow rows (membersAt s at) i)
+    row-at : (i : ℕ) → i < length members → placeRow rows (membersAt s at) i ≡ getD rows (getD members i 0) []
     unfolding placeRow
     row-at i l =
         rw (number-of s at (members-known .whole (λ e. omega (arith, lies .count))) i (omega (arith, lies .count)), lies .member i l)
-        (loaded .row (getD members i 0) (lies .known i l))
 
-    face-at : (i : ℕ) → i < length members → faceOfRow (placeRow rows (membersAt s at) i) ≡ faceOf (view .font (getD members i 0))
-    face-at i l =
-        let r = row-at i l in
-        let font = view .font (getD members i 0) in
-        let held = view .held (getD members i 0) in
-        ap faceOfRow (r .is) ∙ row-face font (marks (r .entry) held (hasAxis font slnt)) (slant-marked (r .entry) held (hasAxis font slnt))
-
-    held-at : (i : ℕ) → i < length members → heldRow rows (membersAt s at) i ≡ heldIn view f i
-    unfolding heldRow heldIn
-    held-at i l =
-        let r = row-at i l in
-        let font = view .font (getD members i 0) in
-        ap isHeld (r .is) ∙ held-marked (font .attributes) (r .entry) (view .held (getD members i 0)) (hasAxis font slnt)
-
-    pub number-by-rows : (request : Request) → offersAt s at rows request ≡ numberOffers view request f
-    unfolding familyOf facesOf offersAt
+    pub number-by-rows : (request : Request) → offersAt s at rows request ≡ rowOffers s rows request f
+    unfolding offersAt rowOffers rowFamily rowHeld heldRow
     number-by-rows request =
-        offers-same (familyOfRows rows (membersAt s at) (u16At s at)) (familyOf (facesOf view f) (length (facesOf view f))) (heldRow rows (membersAt s at)) (heldIn view f)
-        (lies .count ∙ sym many)
-        (λ i l.
-        let m : i < length members = omega (arith, lies .count) in
-        face-at i m
-        ∙ sym (rw (lt-ltb i (length (facesOf view f)) (omega (arith, many))) (ap faceOf (map-at (view .font) members i 0 noFace m))))
-        (λ i l. held-at i (omega (arith, lies .count)))
+        offers-same (familyOfRows rows (membersAt s at) (u16At s at)) (rowFamily s rows f) (heldRow rows (membersAt s at)) (rowHeld s rows f)
+        (lies .count)
+        (λ i l. ap faceOfRow (row-at i (omega (arith, lies .count))))
+        (λ i l. ap isHeld (row-at i (omega (arith, lies .count))))
         request
-        ∙ sym (number-offers view request f)
-      where
-        many : length (facesOf view f) ≡ length members
-        many = length-map members (view .font)
 
-    pub number-few : (request : Request) → length (numberOffers view request f) ≤ 65
+    pub number-few : (request : Request) → length (rowOffers s rows request f) ≤ 65
     unfolding offersAt
     number-few request =
         rw (← number-by-rows request)
@@ -142,7 +121,7 @@ module _ {s : List ℕ} {rows : List (List ℕ)} {families : List ℕ} (loaded :
 
     -- ---- a count that is noted
 
-    module _ (request : Request) (counted : Counted s request families) (v : ℕ) (begins : beginOf v ≡ beginOf (getD families f 0)) (known : knownOf v ≡ suc (length (numberOffers view request f))) where
+    module _ (request : Request) (counted : Counted s rows request families) (v : ℕ) (begins : beginOf v ≡ beginOf (getD families f 0)) (known : knownOf v ≡ suc (length (rowOffers s rows request f))) where
       abbrev after : ℕ → ℕ
       after g = getD (set families f v) g 0
 
@@ -168,17 +147,59 @@ module _ {s : List ℕ} {rows : List (List ℕ)} {families : List ℕ} (loaded :
           same-begin g (same q) = ap beginOf (here g q) ∙ begins ∙ ap (λ (i : ℕ). beginOf (getD families i 0)) (sym q)
           same-begin g (high q) = ap beginOf (other g (omega arith))
 
-          family : (g : ℕ) → g < mostFamilies → Tri g f → FamilyIn s (beginOf (after g)) (length (jobOf s .faces)) (membersOf view g)
+          family : (g : ℕ) → g < mostFamilies → Tri g f → FamilyIn s (beginOf (after g)) (length (jobOf s .faces)) (membersIn s g)
           family g k t = rw (same-begin g t) (loaded .family g k)
 
-      pub one-counted : Counted s request (set families f v)
+      pub one-counted : Counted s rows request (set families f v)
       one-counted = record { right = λ g k. right g k (tri g f) }
         where
-          right : (g : ℕ) → g < mostFamilies → Tri g f → (knownOf (after g) ≡ 0 → ⊥) → knownOf (after g) ≡ suc (length (numberOffers view request g))
+          right : (g : ℕ) → g < mostFamilies → Tri g f → (knownOf (after g) ≡ 0 → ⊥) → knownOf (after g) ≡ suc (length (rowOffers s rows request g))
           right g k (low q) = rw (other g (omega arith)) (counted .right g k)
-          right g k (same q) = λ n. ap knownOf (here g q) ∙ known ∙ ap (λ (i : ℕ). suc (length (numberOffers view request i))) (sym q)
+          right g k (same q) = λ n. ap knownOf (here g q) ∙ known ∙ ap (λ (i : ℕ). suc (length (rowOffers s rows request i))) (sym q)
           right g k (high q) = rw (other g (omega arith)) (counted .right g k)
 
 -- none is counted yet
-pub none-counted : (s : List ℕ) (request : Request) (families : List ℕ) → Uncounted families → Counted s request families
-none-counted s request families fresh = record { right = λ f l n. absurd (n (omega (arith, fresh f l))) }
+pub none-counted : (s : List ℕ) (rows : List (List ℕ)) (request : Request) (families : List ℕ) → Uncounted families → Counted s rows request families
+none-counted s rows request families fresh = record { right = λ f l n. absurd (n (omega (arith, fresh f l))) }
+
+-- ---- rows of a view
+
+module _ {reading : ℕ} {s : List ℕ} {rows : List (List ℕ)} {families : List ℕ} (loaded : TablesOf s rows families) (shows : RowsShow reading s rows) where
+  abbrev view : View
+  view = viewOf reading (jobOf s)
+
+  face-at : (i : ℕ) → i < length (jobOf s .faces) → faceOfRow (getD rows i []) ≡ faceOf (view .font i)
+  face-at i l =
+      let r = shows i l in
+      let font = view .font i in
+      ap faceOfRow (r .is) ∙ row-face font (marks (r .entry) (view .held i) (hasAxis font slnt)) (slant-marked (r .entry) (view .held i) (hasAxis font slnt))
+
+  held-at : (i : ℕ) → i < length (jobOf s .faces) → isHeld (getD rows i []) ≡ view .held i
+  held-at i l =
+      let r = shows i l in
+      let font = view .font i in
+      ap isHeld (r .is) ∙ held-marked (font .attributes) (r .entry) (view .held i) (hasAxis font slnt)
+
+  -- each face number of a family is of the job
+  member-known : (f i : ℕ) → i < length (membersIn s f) → getD (membersIn s f) i 0 < length (jobOf s .faces)
+  member-known f i l = go (ltb f mostFamilies) refl
+    where
+      go : (b : Bool) → ltb f mostFamilies ≡ b → getD (membersIn s f) i 0 < length (jobOf s .faces)
+      go true e = loaded .family f (ltb-true f mostFamilies e) .known i l
+      go false e = absurd (omega (arith, ap length (no-members loaded f (ltb-false f mostFamilies e))))
+
+  -- the offers by rows are the view's
+  pub rows-show : (request : Request) (f : ℕ) → rowOffers s rows request f ≡ numberOffers view request f
+  unfolding rowOffers rowFamily rowHeld familyOf facesOf membersOf heldIn viewOf viewBy
+  rows-show request f =
+      offers-same (rowFamily s rows f) (familyOf (facesOf view f) (length (facesOf view f))) (rowHeld s rows f) (heldIn view f)
+      (sym many)
+      (λ i l.
+      face-at (getD (membersIn s f) i 0) (member-known f i l)
+      ∙ sym (rw (lt-ltb i (length (facesOf view f)) (omega (arith, many))) (ap faceOf (map-at (view .font) (membersIn s f) i 0 noFace l))))
+      (λ i l. held-at (getD (membersIn s f) i 0) (member-known f i l))
+      request
+      ∙ sym (number-offers view request f)
+    where
+      many : length (facesOf view f) ≡ length (membersIn s f)
+      many = length-map (membersIn s f) (view .font)

@@ -36,13 +36,13 @@ use Rattle.query.proofs.FacesAt.{Next, face-at, next-face}
 -- ---- the faces passed
 
 -- the first i faces that lie one after another from a position on have their rows, and the others are left
-pub record FacesLeft (s : List ℕ) (at count i place : ℕ) (before rows : List (List ℕ)) : Type 0 where
+pub record FacesLeft (reading : ℕ) (s : List ℕ) (at count i place : ℕ) (before rows : List (List ℕ)) : Type 0 where
   pub long : length rows ≡ length before
-  pub passed : (faces : List Face) → LiesAt (many count readFace) s at faces → (j : ℕ) → j < i → EntryRow s (entryOf faces j) (getD rows j [])
+  pub passed : (faces : List Face) → LiesAt (many count readFace) s at faces → (j : ℕ) → j < i → EntryRow reading s (entryOf faces j) (getD rows j [])
   pub left : (faces : List Face) → LiesAt (many count readFace) s at faces → LiesAt (many (count - i) readFace) s place (drop i faces)
 
-module _ {s : List ℕ} {at count : ℕ} {before : List (List ℕ)} where
-  pub faces-first : FacesLeft s at count 0 at before before
+module _ {reading : ℕ} {s : List ℕ} {at count : ℕ} {before : List (List ℕ)} where
+  pub faces-first : FacesLeft reading s at count 0 at before before
   faces-first =
       record {
         long = refl;
@@ -50,10 +50,10 @@ module _ {s : List ℕ} {at count : ℕ} {before : List (List ℕ)} where
         left = λ faces lies. let all : count - 0 ≡ count = omega arith in rw all lies;
       }
 
-  module _ {i place : ℕ} {rows : List (List ℕ)} (more : i < count) (left : FacesLeft s at count i place before rows) where
+  module _ {i place : ℕ} {rows : List (List ℕ)} (more : i < count) (left : FacesLeft reading s at count i place before rows) where
     -- the next one is the face i
     record FaceHere (faces : List Face) : Type 0 where
-      row : EntryRow s (entryOf faces i) (rowAt s place)
+      row : EntryRow reading s (entryOf faces i) (rowAt reading s place)
       inside : place < length s
       file : fileEnd s place ≤ length s
       taken : FontTaken (faceAt s place .font)
@@ -92,8 +92,8 @@ module _ {s : List ℕ} {at count : ℕ} {before : List (List ℕ)} where
     unfolding faceAt
     font-there known f n = rw (n, f) (face-here (known .faces) (known .lie) .taken)
 
-    pub face-passed : {next : ℕ} {row : List ℕ} → i < length rows → row ≡ rowAt s place → next ≡ faceEnd s place
-        → FacesLeft s at count (i + 1) next before (set rows i row)
+    pub face-passed : {next : ℕ} {row : List ℕ} → i < length rows → row ≡ rowAt reading s place → next ≡ faceEnd s place
+        → FacesLeft reading s at count (i + 1) next before (set rows i row)
     face-passed {next} {row} room e end =
         record {
           long = length-set rows i row ∙ left .long;
@@ -101,12 +101,12 @@ module _ {s : List ℕ} {at count : ℕ} {before : List (List ℕ)} where
           left = λ faces lies. rw end (face-here faces lies .others);
         }
       where
-        one : (faces : List Face) → LiesAt (many count readFace) s at faces → (j : ℕ) → j < i + 1 → Tri j i → EntryRow s (entryOf faces j) (getD (set rows i row) j [])
+        one : (faces : List Face) → LiesAt (many count readFace) s at faces → (j : ℕ) → j < i + 1 → Tri j i → EntryRow reading s (entryOf faces j) (getD (set rows i row) j [])
         one faces lies j m (low n) = rw (getD-set-other rows i j row [] (λ q. omega arith)) (left .passed faces lies j n)
         one faces lies j m (same q) = rw (q, getD-set-same rows i row [] room, e) (face-here faces lies .row)
         one faces lies j m (high n) = absurd (omega arith)
 
-  pub faces-last : {i place : ℕ} {rows : List (List ℕ)} → FacesLeft s at count i place before rows → count ≤ i → RowsAt s at count before rows
+  pub faces-last : {i place : ℕ} {rows : List (List ℕ)} → FacesLeft reading s at count i place before rows → count ≤ i → RowsAt reading s at count before rows
   faces-last h l = record { long = h .long; each = λ faces lies j m. h .passed faces lies j (omega arith) }
 
 -- ---- one override on a row

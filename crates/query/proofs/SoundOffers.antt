@@ -5,7 +5,7 @@ use mathlib.Core.Bool.{Bool, true, false, not, _&&_, cond}
 use mathlib.Core.List.{List, [], _∷_, _++_, map}
 use native.Mathlib.Omega.{arith}
 use lib.Dec.{ltb}
-use lib.ListN.{length, getD, take, length-take, length-append, length-map, List·getD-append}
+use lib.ListN.{length, getD, take, length-take, length-append, length-map, List·getD-append, List·getD-eq-default}
 use lib.Seq.{getD-append-add, getD-take}
 use borrow.Author.Tests.{ltb-true, ltb-false}
 use Rattle.matching.specs.declared.order.Request.{Request}
@@ -15,8 +15,11 @@ use Rattle.matching.specs.Order.{choice, sameFace, equalPlaces}
 use Rattle.matching.specs.Matching.{familyOf, defaultPlace}
 use Rattle.matching.proofs.Below.{both}
 use Rattle.query.specs.declared.answer.Offer.{Offer}
-use Rattle.query.specs.View.{View}
+use Rattle.query.specs.Job.{jobOf}
+use Rattle.query.specs.View.{View, familiesOf}
 use Rattle.query.specs.Offers.{keep, among, heldEqual, offersDefault, familyOffers, offerOf, membersOf, facesOf, heldIn, numberOffers, inTurn, offers}
+use Rattle.query.specs.CallTables.{membersIn}
+use Rattle.query.specs.Listed.{rowFamily, rowHeld, rowOffers, Names}
 use Rattle.query.proofs.KeptPlaces.{equal-kept, none-kept}
 
 -- a property of every element
@@ -109,8 +112,31 @@ module _ (family : Order.Family) (held : ℕ → Bool) (request : Request) where
       (equal-held (choice family request))
       default-held
 
+-- ---- the list
+
+module _ (family : ℕ → List ℕ) where
+  -- what holds of each family's offers holds of each offer of the list
+  module _ (P : Offer → Type 0) (each : (f : ℕ) → Each (λ p. P (offerOf f p)) 0 (family f)) where
+    turns-hold : (numbers : List ℕ) → Each P (offerOf 0 0) (inTurn family numbers)
+    unfolding inTurn
+    turns-hold [] = each-none P (offerOf 0 0)
+    turns-hold (f ∷ fs) =
+        each-append P (offerOf 0 0) (map (offerOf f) (family f)) (inTurn family fs)
+        (each-map P (offerOf f) 0 (offerOf 0 0) (family f) (each f))
+        (turns-hold fs)
+
+    offers-hold : (most : ℕ) (named fallbacks : List ℕ) (k : ℕ) → k < length (offers family most named fallbacks)
+        → P (getD (offers family most named fallbacks) k (offerOf 0 0))
+    unfolding offers
+    offers-hold most named fallbacks =
+        each-take P (offerOf 0 0) most (inTurn family (named ++ fallbacks)) (turns-hold (named ++ fallbacks))
+
+  pub offers-length : (most : ℕ) (named fallbacks : List ℕ) → length (offers family most named fallbacks) ≤ most
+  unfolding offers
+  offers-length most named fallbacks = omega (arith, length-take most (inTurn family (named ++ fallbacks)))
+
+-- of a view: a family of the job, a place in it, and a face that is held
 module _ (view : View) (request : Request) where
-  -- a family of the job, a place in it, and a face that is held
   abbrev pub Sound : Offer → Type 0
   Sound o =
       (o .family < length (view .families))
@@ -128,20 +154,27 @@ module _ (view : View) (request : Request) where
           (ltb-true f (length (view .families)) t, omega (arith, h .0, length-map (membersOf view f) (view .font)), h .1)
       go false t k l = absurd (omega arith)
 
-  turns-sound : (numbers : List ℕ) → Each Sound (offerOf 0 0) (inTurn view request numbers)
-  unfolding inTurn
-  turns-sound [] = each-none Sound (offerOf 0 0)
-  turns-sound (f ∷ fs) =
-      each-append Sound (offerOf 0 0) (map (offerOf f) (numberOffers view request f)) (inTurn view request fs)
-      (each-map Sound (offerOf f) 0 (offerOf 0 0) (numberOffers view request f) (number-sound f))
-      (turns-sound fs)
+  pub offers-sound : (most : ℕ) (named fallbacks : List ℕ) (k : ℕ) → k < length (offers (numberOffers view request) most named fallbacks)
+      → Sound (getD (offers (numberOffers view request) most named fallbacks) k (offerOf 0 0))
+  offers-sound = offers-hold (numberOffers view request) Sound number-sound
 
-  pub offers-sound : (most : ℕ) (named fallbacks : List ℕ) (k : ℕ) → k < length (offers view request most named fallbacks)
-      → Sound (getD (offers view request most named fallbacks) k (offerOf 0 0))
-  unfolding offers
-  offers-sound most named fallbacks =
-      each-take Sound (offerOf 0 0) most (inTurn view request (named ++ fallbacks)) (turns-sound (named ++ fallbacks))
+-- by rows: a family of the job, and a place in it
+module _ (s : List ℕ) (rows : List (List ℕ)) (request : Request) where
+  row-named : (f : ℕ) → Each (λ p. Names s (offerOf f p)) 0 (rowOffers s rows request f)
+  unfolding rowOffers rowFamily offerOf
+  row-named f k l = go (ltb f (length (familiesOf (jobOf s)))) refl
+    where
+      place : ℕ
+      place = getD (rowOffers s rows request f) k 0
 
-  pub offers-length : (most : ℕ) (named fallbacks : List ℕ) → length (offers view request most named fallbacks) ≤ most
-  unfolding offers
-  offers-length most named fallbacks = omega (arith, length-take most (inTurn view request (named ++ fallbacks)))
+      inside : place < length (membersIn s f)
+      inside = family-held (rowFamily s rows f) (rowHeld s rows f) request k l .0
+
+      go : (b : Bool) → ltb f (length (familiesOf (jobOf s))) ≡ b → Names s (offerOf f place)
+      go true t = record { family = ltb-true f (length (familiesOf (jobOf s))) t; place = inside }
+      go false t =
+          absurd (omega (arith, inside, ap length (List·getD-eq-default (familiesOf (jobOf s)) [] (ltb-false f (length (familiesOf (jobOf s))) t))))
+
+  pub offers-named : (most : ℕ) (named fallbacks : List ℕ) (k : ℕ) → k < length (offers (rowOffers s rows request) most named fallbacks)
+      → Names s (getD (offers (rowOffers s rows request) most named fallbacks) k (offerOf 0 0))
+  offers-named = offers-hold (rowOffers s rows request) (Names s) row-named

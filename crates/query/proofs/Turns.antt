@@ -8,16 +8,14 @@ use lib.Seq.{drop-cons}
 use borrow.Author.Tests.{lt-ltb, le-ltb}
 use Rattle.font.specs.Tables.{u16At}
 use Rattle.font.proofs.Tabulated as Tabulated
-use Rattle.matching.specs.declared.order.Request.{Request}
 use Rattle.query.specs.declared.families.FamilyOffer.{FamilyOffer}
 use Rattle.query.specs.declared.families.FamilyOffer.the-variants as Family'
 use Rattle.query.specs.declared.offers.ListOffer.{ListOffer}
 use Rattle.query.specs.declared.offers.ListOffer.the-variants as List'
 use Rattle.query.specs.declared.offers.Offered.{Offered}
 use Rattle.query.specs.declared.offers.Offered.the-variants as Offered'
-use Rattle.query.specs.View.{View}
 use Rattle.query.specs.Values.{numbersAt, listAt}
-use Rattle.query.specs.Offers.{pick, offerOf, numberOffers, inTurn, offers, offerAt}
+use Rattle.query.specs.Offers.{pick, offerOf, inTurn, offers, offerAt}
 use Rattle.query.proofs.Picked.{pick-then, pick-map, pick-append, pick-take}
 
 -- ---- a list as it lies in a job
@@ -37,12 +35,13 @@ abbrev pub after-all : ListOffer → Offered
 after-all (List'.At o) = Offered'.At o
 after-all (List'.Left k) = Offered'.Past
 
-module _ (view : View) (request : Request) where
+-- Each family's offers are the places that `family` gives of its number.
+module _ (family : ℕ → List ℕ) where
   abbrev pub places : ℕ → ℕ → FamilyOffer
-  places f = pick Family'.Place Family'.Left (numberOffers view request f)
+  places f = pick Family'.Place Family'.Left (family f)
 
   abbrev pub turns : List ℕ → ℕ → ListOffer
-  turns numbers = pick List'.At List'.Left (inTurn view request numbers)
+  turns numbers = pick List'.At List'.Left (inTurn family numbers)
 
   -- what follows the answer of the family of number f, with the others after it
   abbrev pub after-one : ℕ → List ℕ → FamilyOffer → ListOffer
@@ -52,9 +51,9 @@ module _ (view : View) (request : Request) where
   one : (f : ℕ) (rest : List ℕ) (n : ℕ) → after-one f rest (places f n) ≡ turns (f ∷ rest) n
   unfolding inTurn
   one f rest n =
-      pick-then (after-one f rest) Family'.Place Family'.Left (numberOffers view request f) n
-      ∙ sym (pick-map List'.At (turns rest) (offerOf f) (numberOffers view request f) n)
-      ∙ sym (pick-append List'.At List'.Left (map (offerOf f) (numberOffers view request f)) (inTurn view request rest) n)
+      pick-then (after-one f rest) Family'.Place Family'.Left (family f) n
+      ∙ sym (pick-map List'.At (turns rest) (offerOf f) (family f) n)
+      ∙ sym (pick-append List'.At List'.Left (map (offerOf f) (family f)) (inTurn family rest) n)
 
   -- the number at place k of a list, with those after it
   pub one-more : (numbers : List ℕ) (k f n : ℕ) (r : FamilyOffer) → k < length numbers → f ≡ getD numbers k 0 → r ≡ places f n
@@ -69,30 +68,30 @@ module _ (view : View) (request : Request) where
   unfolding inTurn pick
   no-more numbers k n l = ap (λ s. turns s n) (drop-of-length-le numbers l)
 
-  joined : (named fallbacks : List ℕ) → inTurn view request (named ++ fallbacks) ≡ inTurn view request named ++ inTurn view request fallbacks
+  joined : (named fallbacks : List ℕ) → inTurn family (named ++ fallbacks) ≡ inTurn family named ++ inTurn family fallbacks
   unfolding inTurn
   joined [] fallbacks = refl
   joined (f ∷ fs) fallbacks =
-      ap (λ s. map (offerOf f) (numberOffers view request f) ++ s) (joined fs fallbacks)
-      ∙ sym (append-assoc (map (offerOf f) (numberOffers view request f)) (inTurn view request fs) (inTurn view request fallbacks))
+      ap (λ s. map (offerOf f) (family f) ++ s) (joined fs fallbacks)
+      ∙ sym (append-assoc (map (offerOf f) (family f)) (inTurn family fs) (inTurn family fallbacks))
 
   -- what follows the answer of the families
   abbrev pub after-named : List ℕ → ListOffer → Offered
   after-named fallbacks (List'.At o) = Offered'.At o
   after-named fallbacks (List'.Left k) = after-all (turns fallbacks k)
 
-  pub cut-off : (most : ℕ) (named fallbacks : List ℕ) (n : ℕ) → most ≤ n → Offered'.Past ≡ offerAt (offers view request most named fallbacks) n
+  pub cut-off : (most : ℕ) (named fallbacks : List ℕ) (n : ℕ) → most ≤ n → Offered'.Past ≡ offerAt (offers family most named fallbacks) n
   unfolding offers offerAt
   cut-off most named fallbacks n l =
-      sym (pick-take Offered'.At Offered'.Past most (inTurn view request (named ++ fallbacks)) n ∙ rw (le-ltb n most l) refl)
+      sym (pick-take Offered'.At Offered'.Past most (inTurn family (named ++ fallbacks)) n ∙ rw (le-ltb n most l) refl)
 
   pub not-cut : (most : ℕ) (named fallbacks : List ℕ) (n : ℕ) → n < most
-      → after-named fallbacks (turns named n) ≡ offerAt (offers view request most named fallbacks) n
+      → after-named fallbacks (turns named n) ≡ offerAt (offers family most named fallbacks) n
   unfolding offers offerAt
   not-cut most named fallbacks n l =
-      pick-then (after-named fallbacks) List'.At List'.Left (inTurn view request named) n
-      ∙ ap (λ (past : ℕ → Offered). pick Offered'.At past (inTurn view request named) n)
-      (λ i k. pick-then after-all List'.At List'.Left (inTurn view request fallbacks) k i)
-      ∙ sym (pick-append Offered'.At (λ k. Offered'.Past) (inTurn view request named) (inTurn view request fallbacks) n)
+      pick-then (after-named fallbacks) List'.At List'.Left (inTurn family named) n
+      ∙ ap (λ (past : ℕ → Offered). pick Offered'.At past (inTurn family named) n)
+      (λ i k. pick-then after-all List'.At List'.Left (inTurn family fallbacks) k i)
+      ∙ sym (pick-append Offered'.At (λ k. Offered'.Past) (inTurn family named) (inTurn family fallbacks) n)
       ∙ ap (λ s. pick Offered'.At (λ k. Offered'.Past) s n) (sym (joined named fallbacks))
-      ∙ sym (pick-take Offered'.At Offered'.Past most (inTurn view request (named ++ fallbacks)) n ∙ rw (lt-ltb n most l) refl)
+      ∙ sym (pick-take Offered'.At Offered'.Past most (inTurn family (named ++ fallbacks)) n ∙ rw (lt-ltb n most l) refl)

@@ -25,11 +25,12 @@ two i = cond (eqb i 0) (weighing 400) (weighing 700)
 abbrev both : View
 both = record { font = two; held = λ i. true; families = (0 ∷ 1 ∷ []) ∷ [] }
 
-pub two-faces : offers both (requestOf (weighing 700 .attributes) true) 8 (0 ∷ []) [] ≡ offerOf 0 1 ∷ offerOf 0 0 ∷ []
+pub two-faces : offers (numberOffers both (requestOf (weighing 700 .attributes) true)) 8 (0 ∷ []) [] ≡ offerOf 0 1 ∷ offerOf 0 0 ∷ []
 unfolding single ofInt round add sum mul lt neg toBits isNan toUnsigned orderKey keyOfBits wholePercent defaultAttributes first lower before grouped some every last placesBelow zeroAngle fourteen minusFourteen fourHundred fiveHundred angle oblique widthStanding normalStanding italicStanding otherStanding sideStanding rightStanding leftStanding obliqueStanding styleStanding weightStanding samePercent bears slantAt inWidth inStyle inWeight bearerOf bearer hasGroup widthBefore styleBefore weightBefore standsBefore standsFirst choice sameFace equalPlaces styleNumber axisAt axisCount axisPlace hasAxis slnt faceOf blank familyOf requestOf defaultPlace faceWith weighing keep among heldEqual offersDefault familyOffers offerOf membersOf facesOf heldIn numberOffers inTurn offers
 two-faces = refl
 
-pub two-syntheses : (synthesized (two 1 .attributes) (variesOf (two 1)) (weighing 700 .attributes) ≡ unvaried 0 false (pos 0))
-    × (synthesized (two 0 .attributes) (variesOf (two 0)) (weighing 700 .attributes) ≡ unvaried 0 true (pos 0))
+pub two-syntheses : (reading : ℕ)
+    → (synthesized reading (two 1 .attributes) (variesOf (two 1)) (weighing 700 .attributes) ≡ unvaried 0 false (pos 0))
+    × (synthesized reading (two 0 .attributes) (variesOf (two 0)) (weighing 700 .attributes) ≡ unvaried 0 true (pos 0))
 unfolding single ofInt round add sum mul lt neg toBits isNan toUnsigned orderKey keyOfBits first axisAt axisCount axisPlace hasAxis slnt faceWith weighing synthesized variesOf unvaried added put widthSetting weightSetting emboldened skewOf italicLean obliqueLean leanOf settingOf wdth wght ital
-two-syntheses = (refl, refl)
+two-syntheses reading = (refl, refl)

@@ -1,20 +1,21 @@
--- Section 6: the offer call: "job, request, offer number, 40-byte output".
+-- Section 6: the offer call: "job, request, offer number, 40-byte output", and the reading behind the job.
 use Prim.Native.Nat.{ℕ}
-use mathlib.Core.Bool.{false, cond}
+use mathlib.Core.Bool.{false, not, _&&_, cond}
 use mathlib.Core.List.{List, []}
 use mathlib.Core.Path.{_≡_}
-use lib.Dec.{ltb, eqb}
+use lib.Dec.{leb, ltb, eqb}
 use lib.IntN.{pos}
 use lib.ListN.{length, getD}
 use Rattle.font.specs.declared.charmap.CharmapIndex.{CharmapIndex}
 use Rattle.font.specs.Attributes.{defaultAttributes}
+use Rattle.font.specs.Slant.{isReading}
 use Rattle.matching.specs.declared.synthesis.Synthesis.{Synthesis}
 use Rattle.matching.specs.Synthesis.{unvaried}
 use Rattle.query.specs.declared.answer.Offer.{Offer}
 use Rattle.query.specs.declared.offers.Offered.{Offered}
 use Rattle.query.specs.declared.offers.Offered.the-variants.{At, Past}
 use Rattle.query.specs.declared.answer.Answer.{Answer}
-use Rattle.query.specs.Sizes.{recordSize}
+use Rattle.query.specs.Sizes.{recordSize, mostBytes}
 use Rattle.query.specs.Reader.{number, Got, refused, got}
 use Rattle.query.specs.Entries.{Request}
 use Rattle.query.specs.Job.{Job, readJob}
@@ -42,28 +43,33 @@ withSynthesis o made index =
     (record { result = 0; offer = o; synthesis = made; «charmap_index» = index })
 
 -- "answers the offer of the number asked for, with its synthesis", or 1, "past the list"
-unfoldable pub answered : View → Request → Offered → Answer
-answered view r (At o) = withSynthesis o (synthesisOfOffer view r o) (faceOfOffer view o .«charmap_index»)
-answered view r Past = withoutOffer 1
+unfoldable pub answered : ℕ → View → Request → Offered → Answer
+answered reading view r (At o) = withSynthesis o (synthesisOfOffer view reading r o) (faceOfOffer view o .«charmap_index»)
+answered reading view r Past = withoutOffer 1
 
 -- the request of a number; what stands past the list is read by nothing
 unfoldable pub requestOfJob : Job → ℕ → Request
 requestOfJob job k = getD (job .requests) k (record { most = 0; attributes = defaultAttributes; families = []; fallbacks = [] })
 
--- 28 is a request "not in the job"
-unfoldable pub requestAnswer : Job → ℕ → ℕ → Answer
-requestAnswer job k n =
+-- over a view of the job; 28 is a request "not in the job"
+unfoldable pub viewAnswer : ℕ → View → Job → ℕ → ℕ → Answer
+viewAnswer reading view job k n =
     cond (ltb k (length (job .requests)))
-    (answered (viewOf job) (requestOfJob job k) (offerAt (offersOf (viewOf job) (requestOfJob job k)) n))
+    (answered reading view (requestOfJob job k) (offerAt (offersOf view (requestOfJob job k)) n))
     (withoutOffer 28)
 
-unfoldable pub jobAnswer : Got Job → ℕ → ℕ → Answer
-jobAnswer (refused why p) k n = withoutOffer (number why)
-jobAnswer (got job p) k n = requestAnswer job k n
+unfoldable pub requestAnswer : ℕ → Job → ℕ → ℕ → Answer
+requestAnswer reading job k n = viewAnswer reading (viewOf reading job) job k n
 
--- "First met, reading left to right: .. then the whole job, then Request."
-unfoldable pub answerCall : List ℕ → ℕ → ℕ → Answer
-answerCall job k n = jobAnswer (readJob job) k n
+unfoldable pub jobAnswer : ℕ → Got Job → ℕ → ℕ → Answer
+jobAnswer reading (refused why p) k n = withoutOffer (number why)
+jobAnswer reading (got job p) k n = requestAnswer reading job k n
+
+-- "First met, reading left to right: .. then the whole job, then Request." A reading that there is not is 25, "after 17": so where the job is not too long, and
+-- before its first field.
+unfoldable pub answerCall : List ℕ → ℕ → ℕ → ℕ → Answer
+answerCall job reading k n =
+    cond (not (isReading reading) && leb (length job) mostBytes) (withoutOffer 25) (jobAnswer reading (readJob job) k n)
 
 -- ---- the call
 
@@ -84,8 +90,8 @@ written a out =
     (unwritten (a .result) out)
 
 -- 16 is "output not 40 bytes", met before the job
-unfoldable pub offerCall : List ℕ → ℕ → ℕ → List ℕ → Called
-offerCall job k n out = cond (eqb (length out) recordSize) (written (answerCall job k n) out) (unwritten 16 out)
+unfoldable pub offerCall : List ℕ → ℕ → ℕ → ℕ → List ℕ → Called
+offerCall job reading k n out = cond (eqb (length out) recordSize) (written (answerCall job reading k n) out) (unwritten 16 out)
 
 -- the result and the output are those of the definition
 pub record Calls (called : Called) (result : ℕ) (output : List ℕ) : Type 0 where

@@ -7,7 +7,7 @@ use lib.Dec.{eqb}
 use lib.ListN.{length, getD, set}
 use Rattle.font.specs.Single.{orderKey, wholePercent}
 use Rattle.font.specs.Tables.{u16At}
-use Rattle.font.specs.Reading.{fromTables}
+use Rattle.font.specs.StatedAttributes.{fromTables}
 use Rattle.font.specs.Collection.{fontStart}
 use Rattle.font.specs.Font.{fontRefusal, statesAxis}
 use Rattle.font.specs.Overrides.{setDefaults, withAxes}
@@ -30,8 +30,7 @@ use Rattle.query.specs.Entries.{Face, Pair, Override, Request, readFace,
 use Rattle.query.specs.Job.{checkJob, jobOf}
 use Rattle.query.specs.Positions.{LiesAt}
 use Rattle.query.specs.Values.{faceAt, requestAt}
-use Rattle.query.specs.View.{View, afterOverrides, entryOf, statedBy, viewOf}
-use Rattle.query.specs.Offers.{membersOf}
+use Rattle.query.specs.View.{View, afterOverrides, entryOf, statedBy, familiesOf, viewOf}
 
 -- ---- rows
 
@@ -49,16 +48,16 @@ isHeld row = eqb (getD row 4 0 / 2 % 2) 1
 unfoldable pub heldRow : List (List ℕ) → List ℕ → ℕ → Bool
 heldRow rows members i = isHeld (placeRow rows members i)
 
--- the attributes and the axes that a file's font states
-unfoldable pub attributesIn : NumberedFont → Attributes
-attributesIn f = fromTables (f .file) (fontStart (f .file) (f .number))
+-- the attributes, under a reading, and the axes that a file's font states
+unfoldable pub attributesIn : ℕ → NumberedFont → Attributes
+attributesIn reading f = fromTables reading (f .file) (fontStart (f .file) (f .number))
 
 unfoldable pub axisIn : NumberedFont → ℕ → Bool
 axisIn f tag = statesAxis (f .file) (fontStart (f .file) (f .number)) tag
 
 -- the row of the face whose entry begins at a position, before its overrides
-unfoldable pub rowAt : List ℕ → ℕ → List ℕ
-rowAt s p = rowOf (attributesIn (faceAt s p .font)) (marks p (faceAt s p .held) (axisIn (faceAt s p .font) slnt))
+unfoldable pub rowAt : ℕ → List ℕ → ℕ → List ℕ
+rowAt reading s p = rowOf (attributesIn reading (faceAt s p .font)) (marks p (faceAt s p .held) (axisIn (faceAt s p .font) slnt))
 
 -- ---- overrides on rows
 
@@ -95,17 +94,17 @@ pub record FacesLie (s : List ℕ) (at count : ℕ) : Type 0 where
   pub lie : LiesAt (many count readFace) s at faces
 
 -- the row of a face is that of its entry, before its overrides
-pub record EntryRow (s : List ℕ) (face : Face) (row : List ℕ) : Type 0 where
+pub record EntryRow (reading : ℕ) (s : List ℕ) (face : Face) (row : List ℕ) : Type 0 where
   pub entry : ℕ
-  pub is : row ≡ rowAt s entry
+  pub is : row ≡ rowAt reading s entry
   pub face-is : faceAt s entry ≡ face
   pub taken : FontTaken (face .font)
   pub inside : entry < length s
 
 -- the rows of so many faces that lie one after another from a position on
-pub record RowsAt (s : List ℕ) (at count : ℕ) (before rows : List (List ℕ)) : Type 0 where
+pub record RowsAt (reading : ℕ) (s : List ℕ) (at count : ℕ) (before rows : List (List ℕ)) : Type 0 where
   pub long : length rows ≡ length before
-  pub each : (faces : List Face) → LiesAt (many count readFace) s at faces → (i : ℕ) → i < count → EntryRow s (entryOf faces i) (getD rows i [])
+  pub each : (faces : List Face) → LiesAt (many count readFace) s at faces → (i : ℕ) → i < count → EntryRow reading s (entryOf faces i) (getD rows i [])
 
 -- rows after the overrides that lie at a position, of faces that all have a row
 pub record RowsOverridden (s : List ℕ) (at count : ℕ) (before after : List (List ℕ)) : Type 0 where
@@ -122,20 +121,29 @@ afterPairs ps k f =
 pub record FaceOverridden (s : List ℕ) (at count number : ℕ) (before after : FontInfo) : Type 0 where
   pub is : (n : ℕ) (os : List Override) → LiesAt (many count (readOverride n)) s at os → after ≡ afterOverrides os number before
 
--- the face of a number, by the position of its entry, after the overrides, by the position of their section
-pub record OfferedFace (s : List ℕ) (section entry number : ℕ) (font : FontInfo) : Type 0 where
+-- the face of a number under a reading, by the position of its entry, after the overrides, by the position of their section
+pub record OfferedFace (reading : ℕ) (s : List ℕ) (section entry number : ℕ) (font : FontInfo) : Type 0 where
   pub is : (n : ℕ) (os : List Override) → LiesAt (counted mostOverrides (readOverride n)) s section os
-      → font ≡ afterOverrides os number (statedBy (faceAt s entry .font))
+      → font ≡ afterOverrides os number (statedBy reading (faceAt s entry .font))
 
 -- ---- what is loaded
 
--- the row of the face i of a job
-pub record RowIn (s : List ℕ) (view : View) (i : ℕ) (row : List ℕ) : Type 0 where
+-- whatever it says of the face i of a job, a row tells where the face's entry begins
+pub record RowIn (s : List ℕ) (i : ℕ) (row : List ℕ) : Type 0 where
   pub entry : ℕ
-  pub is : row ≡ rowOf (view .font i .attributes) (marks entry (view .held i) (hasAxis (view .font i) slnt))
+  pub told : getD row 4 0 / 4 ≡ entry
   pub face : faceAt s entry ≡ entryOf (jobOf s .faces) i
   pub taken : FontTaken (faceAt s entry .font)
   pub inside : entry < length s
+
+-- the row of the face i of a view
+pub record RowShows (view : View) (i : ℕ) (row : List ℕ) : Type 0 where
+  pub entry : ℕ
+  pub is : row ≡ rowOf (view .font i .attributes) (marks entry (view .held i) (hasAxis (view .font i) slnt))
+
+-- the rows of a job's faces under a reading
+abbrev pub RowsShow : ℕ → List ℕ → List (List ℕ) → Type 0
+RowsShow reading s rows = (i : ℕ) → i < length (jobOf s .faces) → RowShows (viewOf reading (jobOf s)) i (getD rows i [])
 
 -- a family's number in the table: where its entry begins and, once its offers are counted, `countStep` times one more than there are
 abbrev pub countStep : ℕ
@@ -173,18 +181,23 @@ nowhere = countStep - 1
 abbrev pub Room : List ℕ → List (List ℕ) → Type 0
 Room s rows = length (jobOf s .faces) ≤ length rows
 
+-- the face numbers of a family; a number that the job does not have has none
+abbrev pub membersIn : List ℕ → ℕ → List ℕ
+membersIn s f = getD (familiesOf (jobOf s)) f []
+
 pub record TablesOf (s : List ℕ) (rows : List (List ℕ)) (families : List ℕ) : Type 0 where
   pub accepted : checkJob s .refusal ≡ 0
   pub room : Room s rows
-  pub row : (i : ℕ) → i < length (jobOf s .faces) → RowIn s (viewOf (jobOf s)) i (getD rows i [])
+  pub row : (i : ℕ) → i < length (jobOf s .faces) → RowIn s i (getD rows i [])
   pub long : length families ≡ mostFamilies
-  pub family : (f : ℕ) → f < mostFamilies → FamilyIn s (beginOf (getD families f 0)) (length (jobOf s .faces)) (membersOf (viewOf (jobOf s)) f)
+  pub family : (f : ℕ) → f < mostFamilies → FamilyIn s (beginOf (getD families f 0)) (length (jobOf s .faces)) (membersIn s f)
   pub known : length (jobOf s .families) ≤ mostFamilies
 
 -- the check call's answer; and of an accepted job what is loaded, its overrides, and the asked request
-pub record LoadAnswer (s : List ℕ) (w : Walked) (rows : List (List ℕ)) (families : List ℕ) (asked : ℕ) : Type 0 where
+pub record LoadAnswer (reading : ℕ) (s : List ℕ) (w : Walked) (rows : List (List ℕ)) (families : List ℕ) (asked : ℕ) : Type 0 where
   pub checked : record { refusal = w .refusal; position = w .position } ≡ checkJob s
   pub loaded : w .refusal ≡ 0 → TablesOf s rows families
+  pub shown : w .refusal ≡ 0 → RowsShow reading s rows
   pub uncounted : w .refusal ≡ 0 → Uncounted families
   pub overrides : w .refusal ≡ 0 → LiesAt (counted mostOverrides (readOverride (length (jobOf s .faces)))) s (w .overrides) (jobOf s .overrides)
   pub requests : w .refusal ≡ 0 → w .requests ≡ length (jobOf s .requests)

@@ -21,15 +21,15 @@ after cursor found =
 unfoldable pub isOffer : Answer → Bool
 isOffer answer = eqb (answer .result) 0
 
--- a step over a job: the answer to the cursor's numbers, and the cursor after it
-unfoldable pub stepped : List ℕ → Cursor → Step
-stepped job cursor =
+-- a step over a job under a reading: the answer to the cursor's numbers, and the cursor after it
+unfoldable pub stepped : List ℕ → ℕ → Cursor → Step
+stepped job reading cursor =
     record {
-      cursor = after cursor (isOffer (answerCall job (cursor .request) (cursor .next)));
-      answer = answerCall job (cursor .request) (cursor .next);
+      cursor = after cursor (isOffer (answerCall job reading (cursor .request) (cursor .next)));
+      answer = answerCall job reading (cursor .request) (cursor .next);
     }
 
 -- "each step given the cursor that the last returned and otherwise the same inputs": the answers of n steps
-unfoldable pub run : List ℕ → ℕ → Cursor → List Answer
-run job zero cursor = []
-run job (suc n) cursor = stepped job cursor .answer ∷ run job n (stepped job cursor .cursor)
+unfoldable pub run : List ℕ → ℕ → ℕ → Cursor → List Answer
+run job reading zero cursor = []
+run job reading (suc n) cursor = stepped job reading cursor .answer ∷ run job reading n (stepped job reading cursor .cursor)

@@ -7,6 +7,7 @@ use mathlib.Core.List.{List, _++_, map}
 use lib.Dec.{eqb}
 use lib.ListN.{length, take, replicate}
 use Rattle.font.specs.Attributes.{defaultAttributes}
+use Rattle.font.specs.Slant.{isReading}
 use Rattle.matching.specs.declared.order.Request.{Request}
 use Rattle.matching.specs.Order as Order
 use Rattle.matching.specs.Order.{choice, Demand}
@@ -24,10 +25,11 @@ use Rattle.query.specs.Record.{recordBytes}
 use Rattle.query.specs.Call.{Called, withoutOffer, requestOfJob, answerCall, unwritten, offerCall}
 use Rattle.query.specs.Cursor.{fresh, run}
 
-module _ (job : Job) (k : ℕ) where
+-- under a reading
+module _ (reading : ℕ) (job : Job) (k : ℕ) where
   -- the list of a request's offers
   abbrev pub listed : List Offer
-  listed = offersOf (viewOf job) (requestOfJob job k)
+  listed = offersOf (viewOf reading job) (requestOfJob job k)
 
   -- an offer "with its synthesis", and its charmap index
   abbrev pub offered : Offer → Answer
@@ -35,24 +37,28 @@ module _ (job : Job) (k : ℕ) where
       record {
         result = 0;
         offer = o;
-        synthesis = synthesisOfOffer (viewOf job) (requestOfJob job k) o;
-        «charmap_index» = faceOfOffer (viewOf job) o .«charmap_index»;
+        synthesis = synthesisOfOffer (viewOf reading job) reading (requestOfJob job k) o;
+        «charmap_index» = faceOfOffer (viewOf reading job) o .«charmap_index»;
       }
 
   -- the same in 40 bytes
   abbrev pub offerBytes : Offer → Called
   offerBytes o =
-      record { result = 0; output = recordBytes o (synthesisOfOffer (viewOf job) (requestOfJob job k) o) (faceOfOffer (viewOf job) o .«charmap_index») }
+      record {
+        result = 0;
+        output = recordBytes o (synthesisOfOffer (viewOf reading job) reading (requestOfJob job k) o) (faceOfOffer (viewOf reading job) o .«charmap_index»);
+      }
 
 -- ---- demand 1
 
--- "Every job that keeps the layout and limits is read to its end and each request in it gets its offers." A number outside the job is 28.
+-- "Every job that keeps the layout and limits is read to its end and each request in it gets its offers", under each reading. A number outside the job is 28.
 pub record Kept (s : List ℕ) (job : Job) : Type 0 where
   pub end : readJob s ≡ got job (length s)
   pub check : checkJob s ≡ record { refusal = 0; position = 0 }
-  pub offers : (k n : ℕ) → k < length (job .requests) → (out : List ℕ) → length out ≡ recordSize
-      → offerCall s k n out ≡ pick (offerBytes job k) (λ i. unwritten 1 out) (listed job k) n
-  pub outside : (k n : ℕ) → length (job .requests) ≤ k → (out : List ℕ) → length out ≡ recordSize → offerCall s k n out ≡ unwritten 28 out
+  pub offers : (reading k n : ℕ) → isReading reading ≡ true → k < length (job .requests) → (out : List ℕ) → length out ≡ recordSize
+      → offerCall s reading k n out ≡ pick (offerBytes reading job k) (λ i. unwritten 1 out) (listed reading job k) n
+  pub outside : (reading k n : ℕ) → isReading reading ≡ true → length (job .requests) ≤ k → (out : List ℕ) → length out ≡ recordSize
+      → offerCall s reading k n out ≡ unwritten 28 out
 
 -- "First met, reading left to right": what the check call answers for the bytes before the field at p, whose row is w. All that they lack is that field, which is
 -- 18 there; before bytes left, 27, they are a job. 17 is of no field: its position is 0, before which there are no bytes.
@@ -77,7 +83,8 @@ pub record Other (s : List ℕ) : Type 0 where
   pub until : length s ≤ mostBytes → (n : ℕ) → Until s why n
   pub stays : (u : List ℕ) → length (s ++ u) ≤ mostBytes → (number why ≡ 18 → ⊥) → checkJob (s ++ u) ≡ checkJob s
   pub check : checkJob s ≡ record { refusal = number why; position = position }
-  pub untouched : (k n : ℕ) (out : List ℕ) → length out ≡ recordSize → offerCall s k n out ≡ unwritten (number why) out
+  pub untouched : (reading k n : ℕ) (out : List ℕ) → isReading reading ≡ true → length out ≡ recordSize
+      → offerCall s reading k n out ≡ unwritten (number why) out
 
 -- ---- demand 3
 
@@ -88,22 +95,29 @@ pub record Chooses (family : Order.Family) (request : Request) : Type 0 where
   pub few : family .count < 2 → choice family request ≡ 0
 
 -- a family of the job, as the order looks at it
-abbrev pub familyAt : Job → ℕ → Order.Family
-familyAt job f = familyOf (facesOf (viewOf job) f) (length (facesOf (viewOf job) f))
+abbrev pub familyAt : ℕ → Job → ℕ → Order.Family
+familyAt reading job f = familyOf (facesOf (viewOf reading job) f) (length (facesOf (viewOf reading job) f))
 
 -- The choice, in each family of the job and so in each that the request names, and the same of its default. "An offer call that is not refused answers the
 -- offer of the number asked for, with its synthesis, or, exactly where the list has no such offer, that it lies past the list. .. a fresh cursor stepped any number
--- of times .. gives the same offers, each with its synthesis, in order, then "past the list" each time."
-pub record Offered (s : List ℕ) (job : Job) (k : ℕ) : Type 0 where
-  pub chosen : (f : ℕ) → f < length (job .families) → Chooses (familyAt job f) (requestOf (requestOfJob job k .attributes) true)
-  pub default : (f : ℕ) → f < length (job .families) → Chooses (familyAt job f) (requestOf defaultAttributes false)
-  pub each : (n : ℕ) → answerCall s k n ≡ pick (offered job k) (λ i. withoutOffer 1) (listed job k) n
-  pub steps : (n : ℕ) → run s n (fresh k) ≡ map (offered job k) (take n (listed job k)) ++ replicate (n - length (listed job k)) (withoutOffer 1)
+-- of times .. gives the same offers, each with its synthesis, in order, then "past the list" each time." Under a reading, whichever it is.
+pub record Offered (s : List ℕ) (reading : ℕ) (job : Job) (k : ℕ) : Type 0 where
+  pub chosen : (f : ℕ) → f < length (job .families) → Chooses (familyAt reading job f) (requestOf (requestOfJob job k .attributes) true)
+  pub default : (f : ℕ) → f < length (job .families) → Chooses (familyAt reading job f) (requestOf defaultAttributes false)
+  pub each : (n : ℕ) → answerCall s reading k n ≡ pick (offered reading job k) (λ i. withoutOffer 1) (listed reading job k) n
+  pub steps : (n : ℕ)
+      → run s reading n (fresh k)
+      ≡ map (offered reading job k) (take n (listed reading job k)) ++ replicate (n - length (listed reading job k)) (withoutOffer 1)
 
--- ---- both, over the bytes of a job: those of a layout within the limits, and all others; an output that is not 40 bytes is 16 over any
+-- ---- both, over the bytes of a job: those of a layout within the limits, and all others. Over any bytes an output that is not 40 bytes is 16; then a job that is
+-- too long is 17; then a value that is no reading is 25, whatever the job's fields are.
 
 pub record Demands (s : List ℕ) : Type 0 where
   pub kept : (job : Job) → s ≡ layout job → JobFits job → Kept s job
   pub other : (((job : Job) × (s ≡ layout job) × JobFits job) → ⊥) → Other s
-  pub buffer : (k n : ℕ) (out : List ℕ) → (length out ≡ recordSize → ⊥) → offerCall s k n out ≡ unwritten 16 out
-  pub offered : (job : Job) → s ≡ layout job → JobFits job → (k : ℕ) → k < length (job .requests) → Offered s job k
+  pub buffer : (reading k n : ℕ) (out : List ℕ) → (length out ≡ recordSize → ⊥) → offerCall s reading k n out ≡ unwritten 16 out
+  pub long : mostBytes < length s → (reading k n : ℕ) (out : List ℕ) → length out ≡ recordSize → offerCall s reading k n out ≡ unwritten 17 out
+  pub unknown : length s ≤ mostBytes → (reading k n : ℕ) (out : List ℕ) → isReading reading ≡ false → length out ≡ recordSize
+      → offerCall s reading k n out ≡ unwritten 25 out
+  pub offered : (job : Job) → s ≡ layout job → JobFits job → (reading k : ℕ) → isReading reading ≡ true → k < length (job .requests)
+      → Offered s reading job k

@@ -17,7 +17,7 @@ use Rattle.font.specs.declared.overrides.WidthOverride.the-variants as Width
 use Rattle.font.specs.declared.overrides.StyleOverride.the-variants as Style
 use Rattle.font.specs.declared.overrides.WeightOverride.the-variants as Weight
 use Rattle.font.specs.Attributes.{attributesOf}
-use Rattle.font.specs.Reading.{bit}
+use Rattle.font.specs.StatedAttributes.{bit}
 use Rattle.query.specs.Sizes.{mostPlaces}
 use Rattle.query.specs.Reader.{Reader, done, _>>=_}
 use Rattle.query.specs.Fields.{half, word, ratio, value, counted, byteCounted, heldByte, faceNumber, mask, kind, spareByte, spareWord, orSpare, NumberedFont, fontFile}

@@ -13,6 +13,7 @@ pub mod Call
 pub mod Cursor
 pub mod Demands
 pub mod LoneFonts
+pub mod TwoReadings
 -- How the steps of a call hand on what they found: nothing here is a promise to a user.
 pub mod Items
 pub mod Sections

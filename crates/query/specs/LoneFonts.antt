@@ -11,8 +11,7 @@ use Rattle.query.specs.Fields.{NumberedFont}
 use Rattle.query.specs.Entries.{Face}
 use Rattle.query.specs.Job.{Job}
 use Rattle.query.specs.Layout.{layout}
-use Rattle.query.specs.View.{entryOf, viewOf}
-use Rattle.query.specs.Offers.{membersOf}
+use Rattle.query.specs.View.{entryOf, familiesOf}
 use Rattle.query.specs.Call.{answerCall, Called, offerCall}
 use Rattle.query.specs.Demands.{familyAt}
 
@@ -37,7 +36,7 @@ pub record SameJobs (i j : Job) : Type 0 where
 
 -- the font of the face that an offer names
 unfoldable pub fontOfOffer : Job → Offer → NumberedFont
-fontOfOffer job o = entryOf (job .faces) (getD (membersOf (viewOf job) (o .family)) (o .place) 0) .font
+fontOfOffer job o = entryOf (job .faces) (getD (getD (familiesOf job) (o .family) []) (o .place) 0) .font
 
 -- one answer, but for the `cmap` offset, which differs as the places do where the `cmap` of the two fonts lies
 pub record AnswersAlike (i j : Job) (a b : Answer) : Type 0 where
@@ -56,8 +55,8 @@ pub record CallsAlike (a b : Called) : Type 0 where
   pub before : take 32 (a .output) ≡ take 32 (b .output)
   pub behind : drop 36 (a .output) ≡ drop 36 (b .output)
 
--- each family is the same to the order of faces; and of every request, offer number and output
+-- each family is the same to the order of faces; and of every request, offer number and output: under one reading
 pub record AnsweredAlike (i j : Job) : Type 0 where
-  pub order : (f : ℕ) → familyAt i f ≡ familyAt j f
-  pub answers : (k n : ℕ) → AnswersAlike i j (answerCall (layout i) k n) (answerCall (layout j) k n)
-  pub calls : (k n : ℕ) (out : List ℕ) → CallsAlike (offerCall (layout i) k n out) (offerCall (layout j) k n out)
+  pub order : (reading f : ℕ) → familyAt reading i f ≡ familyAt reading j f
+  pub answers : (reading k n : ℕ) → AnswersAlike i j (answerCall (layout i) reading k n) (answerCall (layout j) reading k n)
+  pub calls : (reading k n : ℕ) (out : List ℕ) → CallsAlike (offerCall (layout i) reading k n out) (offerCall (layout j) reading k n out)

@@ -53,6 +53,17 @@ module _ (family : Order.Family) (held : ℕ → Bool) (request : Request) where
 unfoldable pub offerOf : ℕ → ℕ → Offer
 offerOf f p = record { family = f; place = p }
 
+-- Each family's offers are the places that `placesOf` gives of its number.
+module _ (placesOf : ℕ → List ℕ) where
+  -- "Families come in turn .. A family listed twice offers twice."
+  unfoldable pub inTurn : List ℕ → List Offer
+  inTurn [] = []
+  inTurn (f ∷ fs) = map (offerOf f) (placesOf f) ++ inTurn fs
+
+  -- "Families come in turn, fallbacks last .. The list is cut after the request's most offers; 0 gives none."
+  unfoldable pub offers : ℕ → List ℕ → List ℕ → List Offer
+  offers most named fallbacks = take most (inTurn (named ++ fallbacks))
+
 module _ (view : View) where
   -- the face numbers of a family; what stands past the list is read by nothing
   unfoldable pub membersOf : ℕ → List ℕ
@@ -69,27 +80,17 @@ module _ (view : View) where
   unfoldable pub faceOfOffer : Offer → FontInfo
   faceOfOffer o = view .font (getD (membersOf (o .family)) (o .place) 0)
 
-  -- an offer's synthesis: section 5 on the face and the request
-  unfoldable pub synthesisOfOffer : Entries.Request → Offer → Synthesis
-  synthesisOfOffer r o = synthesized (faceOfOffer o .attributes) (variesOf (faceOfOffer o)) (r .attributes)
+  -- an offer's synthesis: section 5 on the face and the request, under a reading
+  unfoldable pub synthesisOfOffer : ℕ → Entries.Request → Offer → Synthesis
+  synthesisOfOffer reading r o = synthesized reading (faceOfOffer o .attributes) (variesOf (faceOfOffer o)) (r .attributes)
 
-  module _ (request : Request) where
-    -- "an unknown number is skipped"
-    unfoldable pub numberOffers : ℕ → List ℕ
-    numberOffers f = cond (ltb f (length (view .families))) (familyOffers (familyOf (facesOf f) (length (facesOf f))) (heldIn f) request) []
+  -- "an unknown number is skipped"
+  unfoldable pub numberOffers : Request → ℕ → List ℕ
+  numberOffers request f = cond (ltb f (length (view .families))) (familyOffers (familyOf (facesOf f) (length (facesOf f))) (heldIn f) request) []
 
-    -- "Families come in turn .. A family listed twice offers twice."
-    unfoldable pub inTurn : List ℕ → List Offer
-    inTurn [] = []
-    inTurn (f ∷ fs) = map (offerOf f) (numberOffers f) ++ inTurn fs
-
-    -- "Families come in turn, fallbacks last .. The list is cut after the request's most offers; 0 gives none."
-    unfoldable pub offers : ℕ → List ℕ → List ℕ → List Offer
-    offers most named fallbacks = take most (inTurn (named ++ fallbacks))
-
-  -- the offers of a request of the job: "Synthesis is on."
+  -- the offers of a request of the job: "Synthesis is on." The reading is in the view's faces alone: the list is the same definition under both.
   unfoldable pub offersOf : Entries.Request → List Offer
-  offersOf r = offers (requestOf (r .attributes) true) (r .most) (r .families) (r .fallbacks)
+  offersOf r = offers (numberOffers (requestOf (r .attributes) true)) (r .most) (r .families) (r .fallbacks)
 
 -- "An offer call .. answers the offer of the number asked for .., or, exactly where the list has no such offer, that it lies past the list."
 unfoldable pub offerAt : List Offer → ℕ → Offered

@@ -10,7 +10,7 @@ use Rattle.font.specs.First.{tabulate}
 use Rattle.font.specs.Single.{single}
 use Rattle.font.specs.Tables.{u16At, u32At}
 use Rattle.font.specs.Collection.{isCollection}
-use Rattle.font.specs.Reading.{bit}
+use Rattle.font.specs.StatedAttributes.{bit}
 use Rattle.font.specs.Attributes.{attributesOf}
 use Rattle.font.specs.declared.attributes.Angle.the-variants.{Unstated, Degrees}
 use Rattle.font.specs.declared.attributes.FontStyle.{FontStyle}

@@ -1,4 +1,4 @@
--- Section 6: what the offers look at in a job. A later reading of a job changes `viewOf` alone.
+-- Section 6: what the offers look at in a job, under a reading.
 use Prim.Native.Nat.{ℕ}
 use mathlib.Core.Bool.{Bool, false, cond}
 use mathlib.Core.List.{List, [], _∷_, map}
@@ -33,14 +33,22 @@ noEntry = record { held = false; font = record { file = []; number = 0 } }
 unfoldable pub entryOf : List Face → ℕ → Face
 entryOf faces i = getD faces i noEntry
 
--- the face that a file's font states, before its overrides
-unfoldable pub statedBy : NumberedFont → FontInfo
-statedBy f = fromFontRef (f .file) (f .number) .font
+-- the face that a file's font states under a reading, before its overrides
+unfoldable pub statedBy : ℕ → NumberedFont → FontInfo
+statedBy reading f = fromFontRef reading (f .file) (f .number) .font
 
-unfoldable pub viewOf : Job → View
-viewOf job =
+-- what the families have is the same under every reading
+unfoldable pub familiesOf : Job → List (List ℕ)
+familiesOf job = map (λ (m : Family). m .members) (job .families)
+
+-- A job whose faces' fonts are read by `stated`. "Request and override angles stay as given."
+unfoldable pub viewBy : (NumberedFont → FontInfo) → Job → View
+viewBy stated job =
     record {
-      font = λ i. afterOverrides (job .overrides) i (statedBy (entryOf (job .faces) i .font));
+      font = λ i. afterOverrides (job .overrides) i (stated (entryOf (job .faces) i .font));
       held = λ i. entryOf (job .faces) i .held;
-      families = map (λ (m : Family). m .members) (job .families);
+      families = familiesOf job;
     }
+
+unfoldable pub viewOf : ℕ → Job → View
+viewOf reading job = viewBy (statedBy reading) job

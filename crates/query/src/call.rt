@@ -1,11 +1,14 @@
 // The offer call.
 ghost use mathlib.Core.Path.{_≡_};
-ghost use Prim.Native.Nat.{_≤_, _<_};
+ghost use mathlib.Core.Bool.{true, cond};
+ghost use Prim.Native.Nat.{ℕ, _≤_, _<_};
+ghost use lib.Dec.{leb};
 ghost use lib.ListN.{length};
+ghost use Rattle.font.specs.Slant.{isReading};
 ghost use Rattle.font.specs.Tables.{u16At};
 ghost use Rattle.matching.specs.Synthesis.{synthesized, variesOf};
-ghost use Rattle.query.specs.Sizes.{fewFaces};
-ghost use Rattle.query.specs.CallTables.{Room, TablesOf, Uncounted};
+ghost use Rattle.query.specs.Sizes.{fewFaces, mostBytes};
+ghost use Rattle.query.specs.CallTables.{Room, RowsShow, TablesOf, Uncounted};
 ghost use Rattle.query.specs.Listed.{SectionIn, Names, answerAt, Readable, Locates, SearchAnswer, LeadsTo};
 ghost use Rattle.query.specs.Call.{withoutOffer, withSynthesis, answerCall, offerCall, Calls};
 ghost use Rattle.query.specs.Demands.{Demands};
@@ -23,6 +26,7 @@ use crate::values;
 use font::attributes::Attributes;
 use font::charmap::CharmapIndex;
 use font::font::FontInfo;
+use font::slant;
 use font::tables;
 use matching::face;
 use matching::matching::request_of;
@@ -50,12 +54,12 @@ fn without_offer(result: u32) -> Answer
     }
 }
 
-// The answer with an offer, from its face and the request's attributes.
-fn with_synthesis(offer: Offer, font: FontInfo, wanted: Attributes) -> Answer
-    ensures { λ r. ⌜ r ≡ withSynthesis offer (synthesized (font .attributes) (variesOf font) wanted) (font .«charmap_index») ⌝ }
+// The answer with an offer, from its face and the request's attributes, under a reading.
+fn with_synthesis(offer: Offer, font: FontInfo, reading: u32, wanted: Attributes) -> Answer
+    ensures { λ r. ⌜ r ≡ withSynthesis offer (synthesized reading (font .attributes) (variesOf font) wanted) (font .«charmap_index») ⌝ }
 {
     let attributes = font.attributes;
-    let made = synthesis::synthesize(attributes, face::varies(font), wanted);
+    let made = synthesis::synthesize(attributes, face::varies(font), reading, wanted);
     if made.refusal == 29 {
         return without_offer(29);
     }
@@ -122,7 +126,7 @@ fn place_of_face(
     }
 }
 
-// The search in the request that an accepted job was loaded for.
+// The search in the request that an accepted job was loaded for, under the reading that its rows are of.
 fn search_request(
     job: &[u8],
     walked: Walked,
@@ -132,7 +136,7 @@ fn search_request(
 ) -> SearchResult
     requires { ⌜ TablesOf (now job) (now rows) (now families) × Uncounted (now families) × SectionIn (now job) (walked .overrides) ⌝ }
     requires { ⌜ walked .request < length (now job) ⌝ }
-    ensures { λ r. ⌜ LeadsTo (now (job .entry)) (answerAt (now (job .entry)) (walked .request) n) r ⌝ }
+    ensures { λ r. ⌜ ((reading : ℕ) → RowsShow reading (now (job .entry)) (now (rows .entry)) → LeadsTo reading (now (job .entry)) (answerAt reading (now (job .entry)) (walked .request) n) r) ⌝ }
 {
     let at = walked.request;
     let wanted = values::attributes_at(job, at + sizes::REQUEST_ATTRIBUTES);
@@ -143,12 +147,18 @@ fn search_request(
 }
 
 // The search for a request and an offer number, with room for the rows of the job's faces.
-fn search_with(job: &[u8], rows: &mut [Row], request: u32, number: u32) -> SearchResult
-    requires { ⌜ Room (now job) (now rows) ⌝ }
-    ensures { λ r. ⌜ LeadsTo (now (job .entry)) (answerCall (now (job .entry)) request number) r ⌝ }
+fn search_with(
+    job: &[u8],
+    reading: u32,
+    rows: &mut [Row],
+    request: u32,
+    number: u32,
+) -> SearchResult
+    requires { ⌜ (isReading reading ≡ true) × Room (now job) (now rows) ⌝ }
+    ensures { λ r. ⌜ LeadsTo reading (now (job .entry)) (answerCall (now (job .entry)) reading request number) r ⌝ }
 {
     let mut families = [loading::NOWHERE; 64];
-    let walked = loading::load(job, &mut *rows, &mut families, request as usize);
+    let walked = loading::load(job, reading, &mut *rows, &mut families, request as usize);
     if walked.refusal != 0 {
         return no_offer(walked.refusal as u32);
     }
@@ -159,54 +169,76 @@ fn search_with(job: &[u8], rows: &mut [Row], request: u32, number: u32) -> Searc
 }
 
 // The answer of a search. The face is read in a frame of its own, when those of the search are gone.
-fn answer_found(job: &[u8], found: SearchResult) -> Answer
-    requires { ⌜ (found .result ≡ 0 → Readable (now job) found) ⌝ }
-    ensures { λ r. ⌜ SearchAnswer (now (job .entry)) found r ⌝ }
+fn answer_found(job: &[u8], reading: u32, found: SearchResult) -> Answer
+    requires { ⌜ (isReading reading ≡ true) × (found .result ≡ 0 → Readable (now job) found) ⌝ }
+    ensures { λ r. ⌜ SearchAnswer reading (now (job .entry)) found r ⌝ }
 {
     if found.result != 0 {
         return without_offer(found.result);
     }
-    let font = faces::offered_face(job, found.section, found.entry, found.number);
+    let font = faces::offered_face(job, reading, found.section, found.entry, found.number);
     let offer = found.offer;
     let wanted = found.wanted;
-    with_synthesis(offer, font, wanted)
+    with_synthesis(offer, font, reading, wanted)
 }
 
 // The answer where the job has few faces, whose rows are soon cleared.
-fn answer_few(job: &[u8], request: u32, number: u32) -> Answer
-    requires { ⌜ u16At (now job) 0 ≤ fewFaces ⌝ }
-    ensures { λ r. ⌜ r ≡ answerCall (now (job .entry)) request number ⌝ }
+fn answer_few(job: &[u8], reading: u32, request: u32, number: u32) -> Answer
+    requires { ⌜ (isReading reading ≡ true) × (u16At (now job) 0 ≤ fewFaces) ⌝ }
+    ensures { λ r. ⌜ r ≡ answerCall (now (job .entry)) reading request number ⌝ }
 {
     let mut rows = [[0u32; COLUMNS]; 64];
-    answer_found(job, search_with(job, &mut rows, request, number))
+    answer_found(
+        job,
+        reading,
+        search_with(job, reading, &mut rows, request, number),
+    )
 }
 
-fn answer_many(job: &[u8], request: u32, number: u32) -> Answer
-    ensures { λ r. ⌜ r ≡ answerCall (now (job .entry)) request number ⌝ }
+fn answer_many(job: &[u8], reading: u32, request: u32, number: u32) -> Answer
+    requires { ⌜ isReading reading ≡ true ⌝ }
+    ensures { λ r. ⌜ r ≡ answerCall (now (job .entry)) reading request number ⌝ }
 {
     let mut rows = [[0u32; COLUMNS]; 256];
-    answer_found(job, search_with(job, &mut rows, request, number))
+    answer_found(
+        job,
+        reading,
+        search_with(job, reading, &mut rows, request, number),
+    )
 }
 
-// The answer to a request and an offer number.
-pub fn offer_at(job: &[u8], request: u32, number: u32) -> Answer
-    ensures { λ r. ⌜ r ≡ answerCall (now (job .entry)) request number ⌝ }
+// The answer where there is no such reading: 25, unless the job is too long.
+fn no_reading(job: &[u8]) -> Answer
+    ensures { λ r. ⌜ r ≡ withoutOffer (cond (leb (length (now (job .entry))) mostBytes) 25 17) ⌝ }
 {
-    if tables::u16_at(job, 0) <= sizes::FEW_FACES {
-        return answer_few(job, request, number);
+    if job.len() <= sizes::MOST_BYTES {
+        return without_offer(25);
     }
-    answer_many(job, request, number)
+    without_offer(17)
 }
 
-// The offer of a number of a request: 0 and the 40 bytes, 1 past the list, or a refusal.
-pub fn offer(job: &[u8], request: u32, number: u32, out: &mut [u8]) -> u32
-    ensures { λ r. ⌜ Calls (offerCall (now (job .entry)) request number (now (out .entry))) r (now (out .exit)) ⌝ }
+// The answer to a request and an offer number, under a reading.
+pub fn offer_at(job: &[u8], reading: u32, request: u32, number: u32) -> Answer
+    ensures { λ r. ⌜ r ≡ answerCall (now (job .entry)) reading request number ⌝ }
+{
+    if !slant::is_reading(reading) {
+        return no_reading(job);
+    }
+    if tables::u16_at(job, 0) <= sizes::FEW_FACES {
+        return answer_few(job, reading, request, number);
+    }
+    answer_many(job, reading, request, number)
+}
+
+// The offer of a number of a request, under a reading: 0 and the 40 bytes, 1 past the list, or a refusal.
+pub fn offer(job: &[u8], reading: u32, request: u32, number: u32, out: &mut [u8]) -> u32
+    ensures { λ r. ⌜ Calls (offerCall (now (job .entry)) reading request number (now (out .entry))) r (now (out .exit)) ⌝ }
     ensures { λ _. ⌜ Demands (now (job .entry)) ⌝ }
 {
     if out.len() != sizes::RECORD {
         return 16;
     }
-    let answer = offer_at(job, request, number);
+    let answer = offer_at(job, reading, request, number);
     let result = answer.result;
     if result == 0 {
         record::write_record(out, answer.offer, answer.synthesis, answer.charmap_index);

@@ -37,12 +37,12 @@ impl Cursor {
         self
     }
 
-    // The answer to the cursor's numbers.
-    pub fn step(mut self, job: &[u8]) -> Step
-        ensures { λ r. ⌜ r ≡ stepped (now (job .entry)) self ⌝ }
+    // The answer to the cursor's numbers, under a reading.
+    pub fn step(mut self, job: &[u8], reading: u32) -> Step
+        ensures { λ r. ⌜ r ≡ stepped (now (job .entry)) reading self ⌝ }
         ensures { λ _. ⌜ Demands (now (job .entry)) ⌝ }
     {
-        let answer = call::offer_at(job, self.request, self.next);
+        let answer = call::offer_at(job, reading, self.request, self.next);
         self = self.after(answer.result == 0);
         Step {
             cursor: self,

@@ -1,7 +1,8 @@
 // The font file of a face of an accepted job, its overrides, and the face that an offer names.
 ghost use mathlib.Core.Path.{_≡_};
-ghost use mathlib.Core.Bool.{cond};
+ghost use mathlib.Core.Bool.{true, cond};
 ghost use Prim.Native.Nat.{_+_, _^_, _≤_, _<_, min};
+ghost use Rattle.font.specs.Slant.{isReading};
 ghost use Rattle.font.specs.Tables.{u16At};
 ghost use Rattle.query.specs.Sizes.{mostOverrides};
 ghost use Rattle.query.specs.View.{overriddenBy};
@@ -160,14 +161,20 @@ fn overridden(job: &[u8], at: usize, count: usize, number: usize, font: FontInfo
 }
 
 // The face of a number whose entry lies at `entry`, after the overrides, whose section lies at `section`.
-pub(crate) fn offered_face(job: &[u8], section: usize, entry: usize, number: usize) -> FontInfo
+pub(crate) fn offered_face(
+    job: &[u8],
+    reading: u32,
+    section: usize,
+    entry: usize,
+    number: usize,
+) -> FontInfo
     requires { ⌜ (section < 2 ^ 31) × (entry < 2 ^ 62) × (u16At (now job) section ≤ mostOverrides) ⌝ }
-    requires { ⌜ FontTaken (faceAt (now job) entry .font) ⌝ }
-    ensures { λ r. ⌜ OfferedFace (now (job .entry)) section entry number r ⌝ }
+    requires { ⌜ (isReading reading ≡ true) × FontTaken (faceAt (now job) entry .font) ⌝ }
+    ensures { λ r. ⌜ OfferedFace reading (now (job .entry)) section entry number r ⌝ }
 {
     let file = file_at(job, entry);
     let behind = fields::behind_file(job, file_end(job, entry), file);
-    let font = read_font(file, behind.number);
+    let font = read_font(file, reading, behind.number);
     let count = tables::u16_at(job, section) as usize;
     overridden(job, section + 2, count, number, font)
 }

@@ -2,6 +2,8 @@
 ghost use mathlib.Core.Path.{_≡_};
 ghost use Prim.Native.Nat.{ℕ, _^_, _≤_, _<_};
 ghost use lib.ListN.{length, getD};
+ghost use mathlib.Core.Bool.{true};
+ghost use Rattle.font.specs.Slant.{isReading};
 ghost use Rattle.font.specs.Font.{fontRefusal};
 ghost use Rattle.query.specs.Sizes.{mostOverrides, mostFamilies};
 ghost use Rattle.query.specs.Values.{fileAt, fileEnd, numberBehind};
@@ -42,22 +44,22 @@ fn bit_of(b: bool) -> u32
 }
 
 // The row of the face whose entry lies at a position, before its overrides, by its file and font number.
-fn row_at(job: &[u8], at: usize, file: &[u8], number: u16) -> Row
+fn row_at(job: &[u8], reading: u32, at: usize, file: &[u8], number: u16) -> Row
     requires { ⌜ (at < 2 ^ 30) × (now file ≡ fileAt (now job) at) × (number ≡ numberBehind (now job) (fileEnd (now job) at) (now file)) ⌝ }
     requires { ⌜ fontRefusal (now file) number ≡ 0 ⌝ }
-    ensures { λ r. ⌜ r ≡ rowAt (now (job .entry)) at ⌝ }
+    ensures { λ r. ⌜ r ≡ rowAt reading (now (job .entry)) at ⌝ }
 {
     let held = bit_of(fields::byte_at(job, at) == 1);
-    let stated = read_stated(file, number, axes::SLNT);
+    let stated = read_stated(file, reading, number, axes::SLNT);
     let slant = bit_of(stated.has_axis);
     let attributes = stated.attributes;
     rows::row(attributes, 4 * (at as u32) + (2 * held + slant))
 }
 
 // The rows of `count` faces, whose entries lie one after another from `at` on.
-fn load_faces(job: &[u8], at: usize, count: usize, rows: &mut [Row])
+fn load_faces(job: &[u8], reading: u32, at: usize, count: usize, rows: &mut [Row])
     requires { ⌜ FacesLie (now job) at count × (count ≤ length (now rows)) ⌝ }
-    ensures { λ _. ⌜ RowsAt (now (job .entry)) at count (now (rows .entry)) (now (rows .exit)) ⌝ }
+    ensures { λ _. ⌜ RowsAt reading (now (job .entry)) at count (now (rows .entry)) (now (rows .exit)) ⌝ }
 {
     let mut place = at;
     let mut i: usize = 0;
@@ -65,7 +67,7 @@ fn load_faces(job: &[u8], at: usize, count: usize, rows: &mut [Row])
         let end = file_end(job, place);
         let file = &job[place + sizes::FACE_HEAD..end];
         let behind = fields::behind_file(job, end, file);
-        let row = row_at(job, place, file, behind.number);
+        let row = row_at(job, reading, place, file, behind.number);
         rows[i] = row;
         place = behind.next;
         i += 1;
@@ -140,16 +142,23 @@ fn load_overrides(job: &[u8], at: usize, count: usize, rows: &mut [Row])
     }
 }
 
-// Checks a job, and loads what the offers look at: a row for each face, and where each family begins; and the asked request.
-pub(crate) fn load(job: &[u8], rows: &mut [Row], families: &mut [u32; 64], asked: usize) -> Walked
-    requires { ⌜ Room (now job) (now rows) × (length (now families) ≡ mostFamilies) ⌝ }
+// Checks a job, and loads what the offers look at under a reading: a row for each face, and where each family begins; and
+// the asked request.
+pub(crate) fn load(
+    job: &[u8],
+    reading: u32,
+    rows: &mut [Row],
+    families: &mut [u32; 64],
+    asked: usize,
+) -> Walked
+    requires { ⌜ (isReading reading ≡ true) × Room (now job) (now rows) × (length (now families) ≡ mostFamilies) ⌝ }
     requires { ⌜ ((f : ℕ) → f < mostFamilies → getD (now families) f 0 ≡ nowhere) ⌝ }
-    ensures { λ r. ⌜ LoadAnswer (now (job .entry)) r (now (rows .exit)) (now (families .exit)) asked ⌝ }
+    ensures { λ r. ⌜ LoadAnswer reading (now (job .entry)) r (now (rows .exit)) (now (families .exit)) asked ⌝ }
 {
     let walked = job::walk(job, families, asked);
     if walked.refusal == 0 {
         let faces = tables::u16_at(job, 0) as usize;
-        load_faces(job, 2, faces, &mut *rows);
+        load_faces(job, reading, 2, faces, &mut *rows);
         let section = walked.overrides;
         let count = tables::u16_at(job, section) as usize;
         load_overrides(job, section + 2, count, rows);

@@ -1,12 +1,11 @@
 // The offers of a request: families in turn, fallbacks last. An offer's number is found by subtracting the families' counts.
+// The rows of the faces are those of a reading; here it is no matter of which.
 ghost use mathlib.Core.Path.{_≡_};
 ghost use Prim.Native.Nat.{_^_, _<_};
-ghost use Rattle.query.specs.Job.{jobOf};
-ghost use Rattle.query.specs.View.{viewOf};
 ghost use Rattle.query.specs.Values.{listAt};
-ghost use Rattle.query.specs.Offers.{pick, numberOffers, inTurn, offerAt};
+ghost use Rattle.query.specs.Offers.{pick, inTurn, offerAt};
 ghost use Rattle.query.specs.CallTables.{TablesOf, Uncounted};
-ghost use Rattle.query.specs.Listed.{Counted, listedAt};
+ghost use Rattle.query.specs.Listed.{rowOffers, Counted, listedAt};
 use crate::answer::Offer;
 use crate::families;
 use crate::families::FamilyOffer;
@@ -40,9 +39,9 @@ fn number_offer(
     family: u16,
     n: usize,
 ) -> FamilyOffer
-    requires { ⌜ TablesOf (now job) (now rows) (now families) × Counted (now job) request (now families) ⌝ }
-    ensures { λ r. ⌜ r ≡ pick FamilyOffer.Place FamilyOffer.Left (numberOffers (viewOf (jobOf (now (job .entry)))) request family) n ⌝ }
-    ensures { λ _. ⌜ TablesOf (now (job .entry)) (now (rows .entry)) (now (families .exit)) × Counted (now (job .entry)) request (now (families .exit)) ⌝ }
+    requires { ⌜ TablesOf (now job) (now rows) (now families) × Counted (now job) (now rows) request (now families) ⌝ }
+    ensures { λ r. ⌜ r ≡ pick FamilyOffer.Place FamilyOffer.Left (rowOffers (now (job .entry)) (now (rows .entry)) request family) n ⌝ }
+    ensures { λ _. ⌜ TablesOf (now (job .entry)) (now (rows .entry)) (now (families .exit)) × Counted (now (job .entry)) (now (rows .entry)) request (now (families .exit)) ⌝ }
 {
     let number = family as usize;
     if sizes::MOST_FAMILIES <= family {
@@ -74,9 +73,9 @@ fn list_offer(
     request: Request,
     n: usize,
 ) -> ListOffer
-    requires { ⌜ (at < 2 ^ 32) × TablesOf (now job) (now rows) (now families) × Counted (now job) request (now families) ⌝ }
-    ensures { λ r. ⌜ r ≡ pick ListOffer.At ListOffer.Left (inTurn (viewOf (jobOf (now (job .entry)))) request (listAt (now (job .entry)) at)) n ⌝ }
-    ensures { λ _. ⌜ TablesOf (now (job .entry)) (now (rows .entry)) (now (families .exit)) × Counted (now (job .entry)) request (now (families .exit)) ⌝ }
+    requires { ⌜ (at < 2 ^ 32) × TablesOf (now job) (now rows) (now families) × Counted (now job) (now rows) request (now families) ⌝ }
+    ensures { λ r. ⌜ r ≡ pick ListOffer.At ListOffer.Left (inTurn (rowOffers (now (job .entry)) (now (rows .entry)) request) (listAt (now (job .entry)) at)) n ⌝ }
+    ensures { λ _. ⌜ TablesOf (now (job .entry)) (now (rows .entry)) (now (families .exit)) × Counted (now (job .entry)) (now (rows .entry)) request (now (families .exit)) ⌝ }
 {
     let count = fields::byte_at(job, at) as usize;
     let mut left = n;
@@ -106,7 +105,7 @@ pub(crate) fn request_offer(
     n: usize,
 ) -> Offered
     requires { ⌜ (at < 2 ^ 31) × TablesOf (now job) (now rows) (now families) × Uncounted (now families) ⌝ }
-    ensures { λ r. ⌜ r ≡ offerAt (listedAt (now (job .entry)) at request) n ⌝ }
+    ensures { λ r. ⌜ r ≡ offerAt (listedAt (now (job .entry)) (now (rows .entry)) at request) n ⌝ }
     ensures { λ _. ⌜ TablesOf (now (job .entry)) (now (rows .entry)) (now (families .exit)) ⌝ }
 {
     let most = tables::u16_at(job, at) as usize;

@@ -18,12 +18,18 @@ pub extern "C" fn stemhook_check(job: &[u8]) -> u64
     (checked.position as u64) * 256 + checked.refusal as u64
 }
 
-// The offer call: 0 and the 40 bytes, 1 past the list, or a refusal.
-// In C: uint32_t stemhook_offer(const uint8_t *job, size_t length, uint32_t request, uint32_t offer, uint8_t *out, size_t out_length).
+// The offer call under a reading, 0 or 1: 0 and the 40 bytes, 1 past the list, or a refusal.
+// In C: uint32_t stemhook_offer(const uint8_t *job, size_t length, uint32_t reading, uint32_t request, uint32_t offer, uint8_t *out, size_t out_length).
 #[no_mangle]
-pub extern "C" fn stemhook_offer(job: &[u8], request: u32, offer: u32, out: &mut [u8]) -> u32
-    ensures { λ r. ⌜ Calls (offerCall (now (job .entry)) request offer (now (out .entry))) r (now (out .exit)) ⌝ }
+pub extern "C" fn stemhook_offer(
+    job: &[u8],
+    reading: u32,
+    request: u32,
+    offer: u32,
+    out: &mut [u8],
+) -> u32
+    ensures { λ r. ⌜ Calls (offerCall (now (job .entry)) reading request offer (now (out .entry))) r (now (out .exit)) ⌝ }
     ensures { λ _. ⌜ Demands (now (job .entry)) ⌝ }
 {
-    call::offer(job, request, offer, out)
+    call::offer(job, reading, request, offer, out)
 }

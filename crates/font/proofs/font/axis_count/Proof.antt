@@ -4,7 +4,7 @@ use mathlib.Core.Path.{sym}
 use lib.ListN.{length}
 use native.Mathlib.Omega.{arith}
 use borrow.Author.Tests.{lt-ltb, le-ltb, le-leb, lt-leb, eq-eqb, ne-eqb}
-use Rattle.font.specs.Reading.{present}
+use Rattle.font.specs.StatedAttributes.{present}
 use Rattle.font.specs.Font.{axisCount}
 use borrow.Author.Needs.{needs}
 use Rattle.font.proofs.font.axis_count.Statement.{statement}

@@ -3,7 +3,7 @@
 use mathlib.Core.Path.{sym, _∙_}
 use lib.Ieee.{ofBits, ofInt, round}
 use Rattle.font.specs.Single.{single}
-use Rattle.font.specs.Reading.{fromHead}
+use Rattle.font.specs.StatedAttributes.{fromHead}
 use borrow.Author.Needs.{needs}
 use Rattle.font.proofs.font.from_head.Statement.{statement}
 use Rattle.font.proofs.font.from_head.Tie as tie

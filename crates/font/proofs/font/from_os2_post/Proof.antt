@@ -2,7 +2,7 @@
 -- Assumes nothing.
 use mathlib.Core.Path.{_∙_}
 use Rattle.font.specs.Single.{single}
-use Rattle.font.specs.Reading.{fromOs2Post}
+use Rattle.font.specs.StatedAttributes.{fromOs2Post}
 use borrow.Author.Needs.{needs}
 use Rattle.font.proofs.font.from_os2_post.Statement.{statement}
 use Rattle.font.proofs.font.from_os2_post.Tie as tie

@@ -5,7 +5,7 @@ use borrow.Author.Tests.{lt-ltb, le-ltb}
 use lib.Ieee.{ofBits, ofInt, round}
 use Rattle.font.specs.Single.{single}
 use Rattle.font.specs.Attributes.{defaultAttributes}
-use Rattle.font.specs.Reading.{present, fromTables}
+use Rattle.font.specs.StatedAttributes.{present, fromTables}
 use borrow.Author.Needs.{needs}
 use Rattle.font.proofs.font.from_tables.Statement.{statement}
 use Rattle.font.proofs.font.from_tables.Tie as tie

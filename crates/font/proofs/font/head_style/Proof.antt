@@ -1,7 +1,7 @@
 -- `font::font::head_style` meets its contract: each answer is that of the test that led to it.
 -- Assumes nothing.
 use borrow.Author.Tests.{eq-eqb, ne-eqb}
-use Rattle.font.specs.Reading.{bit, headStyle}
+use Rattle.font.specs.StatedAttributes.{bit, headStyle}
 use Rattle.font.proofs.font.head_style.Statement.{statement}
 use Rattle.font.proofs.font.head_style.Tie as tie
 

@@ -3,7 +3,7 @@
 use borrow.Author.Tests.{eq-eqb, ne-eqb}
 use lib.Ieee.{ofBits, ofInt, round}
 use Rattle.font.specs.Single.{single}
-use Rattle.font.specs.Reading.{headWeight}
+use Rattle.font.specs.StatedAttributes.{headWeight}
 use Rattle.font.proofs.Classes.{lowest}
 use Rattle.font.proofs.font.head_weight.Statement.{statement}
 use Rattle.font.proofs.font.head_weight.Tie as tie

@@ -2,7 +2,7 @@
 -- Assumes nothing.
 use mathlib.Core.Path.{sym}
 use borrow.Author.Tests.{eq-eqb, ne-eqb}
-use Rattle.font.specs.Reading.{bit, needsPost}
+use Rattle.font.specs.StatedAttributes.{bit, needsPost}
 use Rattle.font.proofs.Classes.{lowest}
 use borrow.Author.Needs.{needs}
 use Rattle.font.proofs.font.needs_post.Statement.{statement}

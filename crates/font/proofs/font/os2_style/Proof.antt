@@ -2,7 +2,7 @@
 -- Assumes nothing.
 use mathlib.Core.Path.{sym}
 use borrow.Author.Tests.{eq-eqb, ne-eqb}
-use Rattle.font.specs.Reading.{os2Style}
+use Rattle.font.specs.StatedAttributes.{os2Style}
 use Rattle.font.proofs.Classes.{lowest, ninth}
 use borrow.Author.Needs.{needs}
 use Rattle.font.proofs.font.os2_style.Statement.{statement}

@@ -2,7 +2,7 @@
 -- Assumes nothing.
 use mathlib.Core.Path.{_∙_}
 use lib.Ieee.{ofBits, round}
-use Rattle.font.specs.Reading.{thousandths, classWidths}
+use Rattle.font.specs.StatedAttributes.{thousandths, classWidths}
 use Rattle.font.proofs.Classes.{listed, past}
 use borrow.Author.Needs.{needs}
 use Rattle.font.proofs.font.width_from_width_class.Statement.{statement}

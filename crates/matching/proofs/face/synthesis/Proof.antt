@@ -29,7 +29,7 @@ unfolding synthesisOf attributesFrom
 returns c =
     let a = c .before .before .before .args in
     let refused = c .before .before .synthesis-refusal .ensures in
-    let number = synthesisRefusal (a .font) (attributesFrom (a .width) (a .style) (a .weight)) in
+    let number = synthesisRefusal (a .reading) (a .font) (attributesFrom (a .width) (a .style) (a .weight)) in
     c .unvaried .ensures
     ∙ ap (λ (r : ℕ). unvaried r false (pos 0)) refused
     ∙ sym (skipped _ number (λ e. c .before .if1 .taken (refused ∙ e)))
@@ -47,8 +47,8 @@ returns-2 c =
     let request = attributesFrom (a .width) (a .style) (a .weight) in
     let refused = c .before .before .before .before .synthesis-refusal .ensures in
     c .synthesize .ensures
-    ∙ ap (λ (v : Varies). synthesized (a .font .attributes) v request) (c .before .varies .ensures)
-    ∙ sym (taken _ (synthesisRefusal (a .font) request) (sym refused ∙ c .before .before .before .if1 .left))
+    ∙ ap (λ (v : Varies). synthesized (a .reading) (a .font .attributes) v request) (c .before .varies .ensures)
+    ∙ sym (taken _ (synthesisRefusal (a .reading) (a .font) request) (sym refused ∙ c .before .before .before .if1 .left))
 
 pub synthesis-spec : {M : Type 1} → statement M
 synthesis-spec =

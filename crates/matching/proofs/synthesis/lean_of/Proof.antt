@@ -33,27 +33,27 @@ enum-told-5 c = search needs
 
 returns : tie.Need-returns
 unfolding leanOf
-returns c = sym (λ k. leanOf (c .before .before .before .before .args .varies) (c .before .before .enum-told .given .1 k) (c .enum-told2 .given .1 k))
+returns c = sym (λ k. leanOf (c .before .before .before .before .args .reading) (c .before .before .before .before .args .varies) (c .before .before .enum-told .given .1 k) (c .enum-told2 .given .1 k))
 
 returns-2 : tie.Need-returns-2
 unfolding leanOf
-returns-2 c = c .italic-lean .ensures ∙ sym (λ k. leanOf (c .before .before .before .before .before .args .varies) (c .before .before .before .enum-told .given .1 k) (c .before .enum-told3 .given .1 k))
+returns-2 c = c .italic-lean .ensures ∙ sym (λ k. leanOf (c .before .before .before .before .before .args .reading) (c .before .before .before .before .before .args .varies) (c .before .before .before .enum-told .given .1 k) (c .before .enum-told3 .given .1 k))
 
 returns-3 : tie.Need-returns-3
 unfolding leanOf
 returns-3 c =
-    let varies = c .before .before .before .before .before .before .before .args .varies in
+    let a = c .before .before .before .before .before .before .before .args in
     let own = c .before .before .before .before .before .enum-told .given .1 in
-    c .oblique-lean .ensures ∙ ap (obliqueLean varies) (c .before .degrees .ensures)
-    ∙ sym (λ k. leanOf varies (own k) (c .before .before .before .wanted .given .1 k))
+    c .oblique-lean .ensures ∙ ap (obliqueLean (a .reading) (a .varies)) (c .before .degrees .ensures)
+    ∙ sym (λ k. leanOf (a .reading) (a .varies) (own k) (c .before .before .before .wanted .given .1 k))
 
 returns-4 : tie.Need-returns-4
 unfolding leanOf
-returns-4 c = sym (λ k. leanOf (c .before .before .args .varies) (c .enum-told4 .given .1 k) (c .before .before .args .wanted))
+returns-4 c = sym (λ k. leanOf (c .before .before .args .reading) (c .before .before .args .varies) (c .enum-told4 .given .1 k) (c .before .before .args .wanted))
 
 returns-5 : tie.Need-returns-5
 unfolding leanOf
-returns-5 c = sym (λ k. leanOf (c .before .before .args .varies) (c .enum-told5 .given .1 k) (c .before .before .args .wanted))
+returns-5 c = sym (λ k. leanOf (c .before .before .args .reading) (c .before .before .args .varies) (c .enum-told5 .given .1 k) (c .before .before .args .wanted))
 
 pub lean-of-spec : {M : Type 1} → statement M
 lean-of-spec =

@@ -9,9 +9,12 @@ use borrow.Author.Needs.{needs}
 use Rattle.matching.proofs.synthesis.oblique_lean.Statement.{statement}
 use Rattle.matching.proofs.synthesis.oblique_lean.Tie as tie
 
+slant-under-requires : tie.Need-slant-under-requires
+slant-under-requires c κs = search needs
+
 returns : tie.Need-returns
 unfolding obliqueLean ital slnt
-returns c = simp (c .if1 .taken)
+returns c = simp (c .before .if1 .taken, c .slant-under .ensures)
 
 leans-right-requires : tie.Need-leans-right-requires
 leans-right-requires c κs = search needs
@@ -30,4 +33,4 @@ returns-3 c =
     ap Skewed skew ∙ sym (rw (sym (c .before .before .leans-right .ensures) ∙ c .before .if2 .left, c .before .before .before .if1 .left))
 
 pub oblique-lean-spec : {M : Type 1} → statement M
-oblique-lean-spec = tie.close (tie.spec returns leans-right-requires returns-2 truncate-to-i8-requires returns-3)
+oblique-lean-spec = tie.close (tie.spec slant-under-requires returns leans-right-requires returns-2 truncate-to-i8-requires returns-3)

@@ -12,7 +12,7 @@ returns : tie.Need-returns
 returns c = record { none = λ h. c .without-offer .ensures; some = λ z. absurd (c .before .if1 .taken z) }
 
 offered-face-requires : tie.Need-offered-face-requires
-offered-face-requires c κs = let r = c .before .before .before .pre (c .if1 .left) in ((r .section, r .entry, r .overrides), r .taken)
+offered-face-requires c κs = let p = c .before .before .before .pre in (let r = p .1 (c .if1 .left) in ((r .section, r .entry, r .overrides), (p .0, r .taken)))
 
 with-synthesis-requires : tie.Need-with-synthesis-requires
 with-synthesis-requires c κs = search needs

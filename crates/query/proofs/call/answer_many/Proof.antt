@@ -9,10 +9,10 @@ slice-aggregate-search-with : tie.Need-slice-aggregate-search-with
 slice-aggregate-search-with c = search needs
 
 search-with-requires : tie.Need-search-with-requires
-search-with-requires c κs = faces-counted _ .1
+search-with-requires c κs = (c .before .before .pre, faces-counted _ .1)
 
 answer-found-requires : tie.Need-answer-found-requires
-answer-found-requires c κs = c .before .search-with .ensures .readable
+answer-found-requires c κs = (c .before .before .before .before .pre, c .before .search-with .ensures .readable)
 
 returns : tie.Need-returns
 returns c = c .before .before .search-with .ensures .leads (c .answer-found .ensures)

@@ -8,7 +8,7 @@ use Rattle.query.proofs.call.offer.Statement.{statement}
 use Rattle.query.proofs.call.offer.Tie as tie
 
 returns : tie.Need-returns
-returns c = (wrong-length _ _ _ _ (c .if1 .taken), demands _ (λ i. omega (arith, c .before .before .shared-slice-known .given i)))
+returns c = (wrong-length _ _ _ _ _ (c .if1 .taken), demands _ (λ i. omega (arith, c .before .before .shared-slice-known .given i)))
 
 offer-at-requires : tie.Need-offer-at-requires
 offer-at-requires c κs = search needs
@@ -17,7 +17,7 @@ write-record-requires : tie.Need-write-record-requires
 write-record-requires c κs =
     let answer = c .before .before in
     let bytes = answer .before .before .before .shared-slice-known in
-    let fits = answer-writable _ (λ i. omega (arith, bytes .given i)) _ _ (answer .offer-at .ensures) in
+    let fits = answer-writable _ (λ i. omega (arith, bytes .given i)) _ _ _ (answer .offer-at .ensures) in
     (answer .before .if1 .left, fits .0, fits .1)
 
 same-length : tie.Need-same-length
@@ -27,13 +27,13 @@ returns-2 : tie.Need-returns-2
 returns-2 c =
     let offer = c .before .before .before .before in
     let answer = offer .before in (
-      record-written _ _ _ _ (answer .before .if1 .left) (answer .offer-at .ensures) (offer .if2 .taken) (c .before .before .write-record .ensures),
+      record-written _ _ _ _ _ (answer .before .if1 .left) (answer .offer-at .ensures) (offer .if2 .taken) (c .before .before .write-record .ensures),
       demands _ (λ i. omega (arith, answer .before .before .before .shared-slice-known .given i)),
     )
 
 returns-3 : tie.Need-returns-3
 returns-3 c = (
-  nothing-written _ _ _ _ (c .before .before .if1 .left) (c .before .offer-at .ensures) (c .if2 .left),
+  nothing-written _ _ _ _ _ (c .before .before .if1 .left) (c .before .offer-at .ensures) (c .if2 .left),
   demands _ (λ i. omega (arith, c .before .before .before .before .shared-slice-known .given i)),
 )
 

@@ -68,7 +68,7 @@ returns c =
       offer = refl;
       wanted-is = refl;
       readable = record { section = omega arith; overrides = section .few; entry = omega arith; taken = entry-taken loaded names begins (number .u16-at .ensures) (c .wide2 .ensures .0) };
-      face = λ font. face-named loaded names begins (number .u16-at .ensures) (c .wide2 .ensures .0) (start .pre .0 .1);
+      face = λ reading font. face-named loaded names begins (number .u16-at .ensures) (c .wide2 .ensures .0) (start .pre .0 .1);
     }
 
 pub place-of-face-spec : {M : Type 1} → statement M

@@ -26,7 +26,7 @@ place-of-face-requires : tie.Need-place-of-face-requires
 place-of-face-requires c κs =
     let found = c .before .before .before .before in
     let start = found .before .before .before .before .before in
-    ((found .request-offer .ensures .1, start .pre .0 .2), found-names _ _ _ (found .before .before .before .attributes-at .ensures) (found .before .request-of .ensures) (found .request-offer .ensures .0) (c .before .before .offer .given .1))
+    ((found .request-offer .ensures .1, start .pre .0 .2), found-names _ _ _ _ (found .before .before .before .attributes-at .ensures) (found .before .request-of .ensures) (found .request-offer .ensures .0) (c .before .before .offer .given .1))
 
 enum-told : tie.Need-enum-told
 enum-told c = search needs
@@ -38,13 +38,17 @@ returns : tie.Need-returns
 returns c =
     let offer = c .before .before .before in
     let found = offer .before .before in
-    finds-offer _ _ _ (found .before .before .before .attributes-at .ensures) (found .before .request-of .ensures) (found .request-offer .ensures .0) (offer .offer .given .1) (c .place-of-face .ensures)
+    λ reading shows.
+    finds-offer _ _ _ _ (found .before .before .before .attributes-at .ensures) (found .before .request-of .ensures) (found .request-offer .ensures .0) (found .request-offer .ensures .1) reading shows
+    (offer .offer .given .1) (c .place-of-face .ensures)
 
 returns-2 : tie.Need-returns-2
 returns-2 c =
     let found = c .before .before .before in
+    λ reading shows.
     finds-none (c .no-offer .ensures) (λ z. omega arith)
-    (past-list _ _ _ (found .before .before .before .attributes-at .ensures) (found .before .request-of .ensures) (found .request-offer .ensures .0) (c .before .enum-told .given .1))
+    (past-list _ _ _ _ (found .before .before .before .attributes-at .ensures) (found .before .request-of .ensures) (found .request-offer .ensures .0) (found .request-offer .ensures .1) reading shows
+    (c .before .enum-told .given .1))
 
 pub search-request-spec : {M : Type 1} → statement M
 search-request-spec =

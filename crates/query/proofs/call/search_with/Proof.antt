@@ -11,7 +11,7 @@ use Rattle.query.proofs.call.search_with.Statement.{statement}
 use Rattle.query.proofs.call.search_with.Tie as tie
 
 load-requires : tie.Need-load-requires
-load-requires c κs = ((c .before .before .before .pre, refl), λ f l. getD-replicate mostFamilies f nowhere 0 l)
+load-requires c κs = let p = c .before .before .before .pre in ((p .0, p .1, refl), λ f l. getD-replicate mostFamilies f nowhere 0 l)
 
 cast-no-offer : tie.Need-cast-no-offer
 cast-no-offer c = search needs
@@ -25,16 +25,19 @@ same-length c = search needs
 returns : tie.Need-returns
 returns c =
     let refused = c .before .before in
+    let loaded = refused .before .before .before in
+    let known = loaded .before .before .before .before .pre .0 in
     finds-none (c .no-offer .ensures) (refused .if1 .taken)
-    (job-refused _ _ _ _ (refusal-is (refused .before .before .before .load .ensures)) (refused .if1 .taken))
+    (job-refused _ _ known _ _ _ (refusal-is known (loaded .load .ensures)) (refused .if1 .taken))
 
 search-request-requires : tie.Need-search-request-requires
 search-request-requires c κs =
     let request = c .before .before in
     let ok = request .before .before in
-    let loads = ok .before .before .before .load .ensures in
+    let loaded = ok .before .before .before in
+    let loads = loaded .load .ensures in
     let z = ok .if1 .left in
-    ((loads .loaded z, loads .uncounted z, loads .overrides z), request-inside loads z (request .if2 .taken))
+    ((loads .loaded z, loads .uncounted z, loads .overrides z), request-inside (loaded .before .before .before .before .pre .0) loads z (request .if2 .taken))
 
 same-length-2 : tie.Need-same-length-2
 same-length-2 c = search needs
@@ -43,7 +46,10 @@ returns-2 : tie.Need-returns-2
 returns-2 c =
     let request = c .before .before .before in
     let ok = request .before .before in
-    finds-same (request-answered (ok .before .before .before .load .ensures) (ok .if1 .left) (request .if2 .taken) _) (c .search-request .ensures)
+    let loaded = ok .before .before .before in
+    let loads = loaded .load .ensures in
+    let known = loaded .before .before .before .before .pre .0 in
+    finds-same (request-answered known loads (ok .if1 .left) (request .if2 .taken) _) (c .search-request .ensures _ (loads .shown (ok .if1 .left)))
 
 no-offer-requires-2 : tie.Need-no-offer-requires-2
 no-offer-requires-2 c κs = search needs
@@ -54,7 +60,9 @@ same-length-3 c = search needs
 returns-3 : tie.Need-returns-3
 returns-3 c =
     let ok = c .before .before .before in
-    finds-none (c .no-offer2 .ensures) (λ z. omega arith) (unknown-request (ok .before .before .before .load .ensures) (ok .if1 .left) (c .before .if2 .left) _)
+    let loaded = ok .before .before .before in
+    let known = loaded .before .before .before .before .pre .0 in
+    finds-none (c .no-offer2 .ensures) (λ z. omega arith) (unknown-request known (loaded .load .ensures) (ok .if1 .left) (c .before .if2 .left) _)
 
 pub search-with-spec : {M : Type 1} → statement M
 search-with-spec =

@@ -1,7 +1,7 @@
 -- `query::entries::given` meets its contract.
 -- Assumes nothing.
 use mathlib.Core.Path.{refl, sym}
-use Rattle.font.specs.Reading.{bit}
+use Rattle.font.specs.StatedAttributes.{bit}
 use Rattle.font.proofs.Classes.{lowest}
 use Rattle.query.specs.Entries.{readGiven, readWidth, readWeight}
 use Rattle.query.proofs.Ends.{stops, goes, ends}

@@ -14,7 +14,7 @@ use Rattle.font.specs.declared.overrides.WeightOverride.{WeightOverride}
 use Rattle.font.specs.declared.overrides.WidthOverride.the-variants as Width
 use Rattle.font.specs.declared.overrides.StyleOverride.the-variants as Style
 use Rattle.font.specs.declared.overrides.WeightOverride.the-variants as Weight
-use Rattle.font.specs.Reading.{bit}
+use Rattle.font.specs.StatedAttributes.{bit}
 use Rattle.font.proofs.Classes.{lowest}
 use Rattle.query.specs.Values.{numberAt, styleAt, givenAt}
 use borrow.Author.Needs.{needs}

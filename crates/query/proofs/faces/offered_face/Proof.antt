@@ -2,12 +2,14 @@
 -- Assumes nothing.
 use Prim.Native.Nat.{ℕ, _≤_}
 use mathlib.Core.Path.{_≡_, sym, ap, _∙_}
+use mathlib.Core.Bool.{true}
 use mathlib.Core.List.{List}
 use native.Mathlib.Omega.{arith}
 use Rattle.font.specs.declared.font.FontInfo.{FontInfo}
+use Rattle.font.specs.Slant.{isReading}
 use Rattle.font.specs.Collection.{fontStart}
 use Rattle.font.specs.Font.{fontRefusal, faceOf, fromFontRef}
-use Rattle.font.proofs.FaceOf.{accepted-face, few-axes}
+use Rattle.font.proofs.FaceOf.{under-reading, accepted-face, few-axes}
 use Rattle.query.specs.declared.fields.Behind.{Behind}
 use Rattle.query.specs.Sizes.{mostOverrides}
 use Rattle.query.specs.Fields.{NumberedFont}
@@ -31,13 +33,17 @@ module _ (s : List ℕ) (p : ℕ) {file : List ℕ} {end : ℕ} {behind : Behind
     not-refused : fontRefusal file (behind .number) ≡ 0
     not-refused = ap (λ (f : NumberedFont). fontRefusal (f .file) (f .number)) font-is ∙ taken
 
-    font-of : {font : FontInfo} → font ≡ faceOf file (fontStart file (behind .number)) → font ≡ statedBy (faceAt s p .font)
+    font-of : {reading : ℕ} {font : FontInfo} → isReading reading ≡ true → font ≡ faceOf reading file (fontStart file (behind .number))
+        → font ≡ statedBy reading (faceAt s p .font)
     unfolding statedBy
-    font-of e = e ∙ sym (accepted-face file (behind .number) not-refused) ∙ ap (λ (f : NumberedFont). statedBy f) font-is
+    font-of {reading} known e =
+        e
+        ∙ sym (accepted-face reading file (behind .number) (under-reading reading file (behind .number) known ∙ not-refused))
+        ∙ ap (λ (f : NumberedFont). statedBy reading f) font-is
 
-few-stated-axes : (f : NumberedFont) {font : FontInfo} → font ≡ statedBy f → font .«axis_count» ≤ 16
+few-stated-axes : {reading : ℕ} (f : NumberedFont) {font : FontInfo} → font ≡ statedBy reading f → font .«axis_count» ≤ 16
 unfolding statedBy
-few-stated-axes f e = rw e (few-axes (f .file) (f .number))
+few-stated-axes {reading} f e = rw e (few-axes reading (f .file) (f .number))
 
 file-at-requires : tie.Need-file-at-requires
 file-at-requires c κs = search needs
@@ -50,7 +56,7 @@ behind-file-requires c κs = search needs
 
 read-font-requires : tie.Need-read-font-requires
 read-font-requires c κs =
-    not-refused _ _ (c .before .before .file-at .ensures) (c .behind-file .ensures) (c .before .file-end .ensures .0) (c .before .before .before .before .pre .1)
+    not-refused _ _ (c .before .before .file-at .ensures) (c .behind-file .ensures) (c .before .file-end .ensures .0) (c .before .before .before .before .pre .1 .1)
 
 u16-at-requires : tie.Need-u16-at-requires
 u16-at-requires c κs = search needs
@@ -66,7 +72,7 @@ overridden-requires c κs =
     let read = c .before in
     let behind = read .before in
     let start = behind .before .before .before .before .args in
-    let font = font-of _ _ (behind .before .before .file-at .ensures) (behind .behind-file .ensures) (behind .before .file-end .ensures .0) (behind .before .before .before .before .pre .1) (read .read-font .ensures) in
+    let font = font-of _ _ (behind .before .before .file-at .ensures) (behind .behind-file .ensures) (behind .before .file-end .ensures .0) (behind .before .before .before .before .pre .1 .1) (behind .before .before .before .before .pre .1 .0) (read .read-font .ensures) in
     let given = behind .before .before .before .before .pre .0 in
     (omega (arith, given .0), omega (arith, given .2, c .u16-at .ensures), few-stated-axes (faceAt (start .job .now) (start .entry) .font) font)
 
@@ -80,7 +86,7 @@ returns c =
           λ n os lies.
           c .overridden .ensures .is n os (rw (c .before .u16-at .ensures) (counted-lies mostOverrides (readOverride n) (start .job .now) (start .section) os lies))
           ∙ ap (λ (f : FontInfo). afterOverrides os (start .number) f)
-          (font-of (start .job .now) (start .entry) (behind .before .before .file-at .ensures) (behind .behind-file .ensures) (behind .before .file-end .ensures .0) (behind .before .before .before .before .pre .1) (read .read-font .ensures));
+          (font-of (start .job .now) (start .entry) (behind .before .before .file-at .ensures) (behind .behind-file .ensures) (behind .before .file-end .ensures .0) (behind .before .before .before .before .pre .1 .1) (behind .before .before .before .before .pre .1 .0) (read .read-font .ensures));
     }
 
 pub offered-face-spec : {M : Type 1} → statement M

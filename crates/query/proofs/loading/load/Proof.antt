@@ -21,7 +21,7 @@ load-faces-requires c κs =
     let walked = then .before .before in
     let count = c .before .u16-at .ensures in (
       faces-lie (walked .walk .ensures) (then .if1 .taken) count,
-      omega (arith, faces-number (walked .walk .ensures) (then .if1 .taken) count, walked .before .before .before .pre .0 .0),
+      omega (arith, faces-number (walked .walk .ensures) (then .if1 .taken) count, walked .before .before .before .pre .0 .1),
     )
 
 u16-at-requires-2 : tie.Need-u16-at-requires-2
@@ -49,7 +49,7 @@ returns c =
     let faces = c .before .before .before .before .before in
     let then = faces .before .before .before in
     let start = then .before .before .before .before .before in
-    loads (then .before .before .walk .ensures) (then .if1 .taken) (faces .before .before .u16-at .ensures) (faces .load-faces .ensures) (start .pre .0 .0)
+    loads (then .before .before .walk .ensures) (then .if1 .taken) (faces .before .before .u16-at .ensures) (start .pre .0 .0) (faces .load-faces .ensures) (start .pre .0 .1)
     (c .before .load-overrides .ensures) (c .before .before .before .u16-at2 .ensures) (search needs) (start .pre .1)
 
 returns-2 : tie.Need-returns-2

@@ -11,10 +11,10 @@ use Rattle.query.proofs.loading.load_faces.Statement.{statement}
 use Rattle.query.proofs.loading.load_faces.Tie as tie
 
 abbrev Inv-loop : tie.InvT-loop
-Inv-loop job at count rows₀ place₀ i₀ rows place i = (i ≤ count) × FacesLeft job at count i place rows₀ rows
+Inv-loop job reading at count rows₀ place₀ i₀ rows place i = (i ≤ count) × FacesLeft reading job at count i place rows₀ rows
 
 abbrev μ-loop : tie.MeasureT-loop
-μ-loop job at count rows₀ place₀ i₀ rows place i = count - i
+μ-loop job reading at count rows₀ place₀ i₀ rows place i = count - i
 
 loop-holds : tie.Need-loop-holds Inv-loop μ-loop
 loop-holds c = (omega arith, faces-first)

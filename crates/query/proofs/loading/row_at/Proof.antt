@@ -17,11 +17,11 @@ use Rattle.query.proofs.loading.row_at.Statement.{statement}
 use Rattle.query.proofs.loading.row_at.Tie as tie
 
 -- the row of what the file's font states
-row-of : (s : List ℕ) (at : ℕ) {file : List ℕ} {number held slant : ℕ} {stated : Stated} → file ≡ fileAt s at → number ≡ numberBehind s (fileEnd s at) file
-    → stated ≡ statedAt file (fontStart file number) slnt → held ≡ bitOf (eqb (getD s at 0) 1) → slant ≡ bitOf (stated .«has_axis»)
-    → rowOf (stated .attributes) (4 * at + (2 * held + slant)) ≡ rowAt s at
+row-of : (reading : ℕ) (s : List ℕ) (at : ℕ) {file : List ℕ} {number held slant : ℕ} {stated : Stated} → file ≡ fileAt s at → number ≡ numberBehind s (fileEnd s at) file
+    → stated ≡ statedAt reading file (fontStart file number) slnt → held ≡ bitOf (eqb (getD s at 0) 1) → slant ≡ bitOf (stated .«has_axis»)
+    → rowOf (stated .attributes) (4 * at + (2 * held + slant)) ≡ rowAt reading s at
 unfolding rowAt marks attributesIn axisIn statedAt faceAt
-row-of s at f n e h x = rw (x, h, e, n, f) refl
+row-of reading s at f n e h x = rw (x, h, e, n, f) refl
 
 byte-at-requires : tie.Need-byte-at-requires
 byte-at-requires c κs = search needs
@@ -60,7 +60,7 @@ returns c =
     let start = stated .before .before in
     let given = start .before .before .before .pre .0 in
     c .row .ensures
-    ∙ row-of _ _ (given .1) (given .2) (stated .read-stated .ensures) (stated .before .bit-of .ensures .0 ∙ ap (λ (b : ℕ). bitOf (eqb b 1)) (start .byte-at .ensures)) (c .before .before .bit-of2 .ensures .0)
+    ∙ row-of _ _ _ (given .1) (given .2) (stated .read-stated .ensures) (stated .before .bit-of .ensures .0 ∙ ap (λ (b : ℕ). bitOf (eqb b 1)) (start .byte-at .ensures)) (c .before .before .bit-of2 .ensures .0)
 
 pub row-at-spec : {M : Type 1} → statement M
 row-at-spec =

@@ -7,12 +7,10 @@ use lib.ListN.{drop}
 use denote.Ref.{now}
 use Rattle.query.specs.declared.families.FamilyOffer.{FamilyOffer}
 use Rattle.query.specs.declared.offers.ListOffer.{ListOffer}
-use Rattle.query.specs.Job.{jobOf}
-use Rattle.query.specs.View.{viewOf}
 use Rattle.query.specs.Values.{listAt}
 use Rattle.query.specs.Offers.{offerOf}
 use Rattle.query.specs.CallTables.{TablesOf}
-use Rattle.query.specs.Listed.{Counted}
+use Rattle.query.specs.Listed.{rowOffers, Counted}
 use Rattle.query.proofs.Turns.{list-length, list-number, turns, after-one, one-more, no-more}
 use borrow.Author.Needs.{needs}
 use Rattle.query.proofs.offers.list_offer.Statement.{statement}
@@ -21,8 +19,8 @@ use Rattle.query.proofs.offers.list_offer.Tie as tie
 abbrev Inv-loop : tie.InvT-loop
 Inv-loop job at rows families₀ request n count left₀ k₀ families left k =
     (k ≤ count)
-    × (TablesOf job rows families × Counted job request families)
-    × (turns (viewOf (jobOf job)) request (listAt job at) n ≡ turns (viewOf (jobOf job)) request (drop k (listAt job at)) left)
+    × (TablesOf job rows families × Counted job rows request families)
+    × (turns (rowOffers job rows request) (listAt job at) n ≡ turns (rowOffers job rows request) (drop k (listAt job at)) left)
 
 abbrev μ-loop : tie.MeasureT-loop
 μ-loop job at rows families₀ request n count left₀ k₀ families left k = count - k
@@ -35,10 +33,10 @@ abbrev list : Start → List ℕ
 list c = listAt (now (c .args .job)) (c .args .at)
 
 abbrev answer : Start → List ℕ → ℕ → ListOffer
-answer c = turns (viewOf (jobOf (now (c .args .job)))) (c .args .request)
+answer c = turns (rowOffers (now (c .args .job)) (now (c .args .rows)) (c .args .request))
 
 abbrev after : Start → ℕ → List ℕ → FamilyOffer → ListOffer
-after c = after-one (viewOf (jobOf (now (c .args .job)))) (c .args .request)
+after c = after-one (rowOffers (now (c .args .job)) (now (c .args .rows)) (c .args .request))
 
 abbrev start : tie.After-number-offer Inv-loop μ-loop → Start
 start c = c .before .before .before .before .before .before .before
@@ -52,7 +50,7 @@ stepped c =
     let f = c .before .before .u16-at in
     let numbers = list-length (now (a .job)) (a .at) in
     l .inv .2
-    ∙ one-more (viewOf (jobOf (now (a .job)))) (a .request) (list (start c)) (l .k) (f .result) (l .left) (c .number-offer .result)
+    ∙ one-more (rowOffers (now (a .job)) (now (a .rows)) (a .request)) (list (start c)) (l .k) (f .result) (l .left) (c .number-offer .result)
     (omega arith)
     (f .ensures ∙ sym (list-number (now (a .job)) (a .at) (l .k) (omega arith)))
     (c .number-offer .ensures .0)
@@ -109,7 +107,7 @@ returns-2 c =
     let s = c .before .before .before .before in
     let l = c .before .loop in
     let numbers = list-length (now (s .args .job)) (s .args .at) in
-    (sym (l .inv .2 ∙ no-more (viewOf (jobOf (now (s .args .job)))) (s .args .request) (list s) (l .k) (l .left) (omega arith)), l .inv .1)
+    (sym (l .inv .2 ∙ no-more (rowOffers (now (s .args .job)) (now (s .args .rows)) (s .args .request)) (list s) (l .k) (l .left) (omega arith)), l .inv .1)
 
 pub list-offer-spec : {M : Type 1} → statement M
 list-offer-spec =

@@ -6,11 +6,9 @@ use mathlib.Core.List.{List}
 use lib.ListN.{length, getD}
 use denote.Ref.{now}
 use Rattle.query.specs.declared.families.FamilyOffer.the-variants.{Place, Left}
-use Rattle.query.specs.Job.{jobOf}
-use Rattle.query.specs.View.{viewOf}
-use Rattle.query.specs.Offers.{pick, numberOffers}
+use Rattle.query.specs.Offers.{pick}
 use Rattle.query.specs.CallTables.{beginOf, knownOf}
-use Rattle.query.specs.Listed.{offersAt}
+use Rattle.query.specs.Listed.{offersAt, rowOffers}
 use Rattle.query.proofs.Picked.{pick-past}
 use Rattle.query.proofs.FamilyLists.{Passed, passed-by}
 use Rattle.query.proofs.RowFamilies.{unknown-number, members-known, number-by-rows, number-few, still-loaded, one-counted}
@@ -20,7 +18,7 @@ use Rattle.query.proofs.offers.number_offer.Tie as tie
 
 -- the family's offers
 abbrev offered : tie.Start → List ℕ
-offered c = numberOffers (viewOf (jobOf (now (c .args .job)))) (c .args .request) (c .args .family)
+offered c = rowOffers (now (c .args .job)) (now (c .args .rows)) (c .args .request) (c .args .family)
 
 -- it was matched: the answer is of its offers; and where there is no n-th, they are as many as were passed
 abbrev start : tie.After-entry-offer → tie.Start

@@ -8,11 +8,9 @@ use Rattle.font.specs.Tables.{u16At}
 use Rattle.query.specs.declared.offers.ListOffer.{ListOffer}
 use Rattle.query.specs.declared.offers.Offered.{Offered}
 use Rattle.query.specs.Sizes.{requestHead}
-use Rattle.query.specs.Job.{jobOf}
-use Rattle.query.specs.View.{viewOf}
 use Rattle.query.specs.Offers.{offerAt}
 use Rattle.query.specs.Values.{listAt, listEnd, requestAt}
-use Rattle.query.specs.Listed.{listedAt}
+use Rattle.query.specs.Listed.{rowOffers, listedAt}
 use Rattle.query.proofs.RowFamilies.{none-counted}
 use Rattle.query.proofs.Turns.{after-all, after-named, cut-off, not-cut}
 use borrow.Author.Needs.{needs}
@@ -27,10 +25,10 @@ abbrev fallbacks : tie.Start → List ℕ
 fallbacks c = listAt (now (c .args .job)) (listEnd (now (c .args .job)) (c .args .at + requestHead))
 
 abbrev asked : tie.Start → Offered
-asked c = offerAt (listedAt (now (c .args .job)) (c .args .at) (c .args .request)) (c .args .n)
+asked c = offerAt (listedAt (now (c .args .job)) (now (c .args .rows)) (c .args .at) (c .args .request)) (c .args .n)
 
 abbrev after : tie.Start → ListOffer → Offered
-after c = after-named (viewOf (jobOf (now (c .args .job)))) (c .args .request) (fallbacks c)
+after c = after-named (rowOffers (now (c .args .job)) (now (c .args .rows)) (c .args .request)) (fallbacks c)
 
 -- the families have answered
 named-answered : (c : tie.After-list-offer) → after (c .before .before .before .before .before) (c .list-offer .result) ≡ asked (c .before .before .before .before .before)
@@ -39,7 +37,7 @@ named-answered c =
     let s = c .before .before .before .before .before in
     let a = s .args in
     ap (after s) (c .list-offer .ensures .0)
-    ∙ not-cut (viewOf (jobOf (now (a .job)))) (a .request) (u16At (now (a .job)) (a .at)) (named s) (fallbacks s) (a .n) (omega arith)
+    ∙ not-cut (rowOffers (now (a .job)) (now (a .rows)) (a .request)) (u16At (now (a .job)) (a .at)) (named s) (fallbacks s) (a .n) (omega arith)
 
 -- and the fallbacks
 abbrev start : tie.After-list-offer2 → tie.Start
@@ -63,13 +61,13 @@ unfolding listedAt requestAt
 returns c =
     let s = c .before .before .before in
     let a = s .args in
-    (cut-off (viewOf (jobOf (now (a .job)))) (a .request) (u16At (now (a .job)) (a .at)) (named s) (fallbacks s) (a .n) (omega arith), s .pre .1)
+    (cut-off (rowOffers (now (a .job)) (now (a .rows)) (a .request)) (u16At (now (a .job)) (a .at)) (named s) (fallbacks s) (a .n) (omega arith), s .pre .1)
 
 add-named : tie.Need-add-named
 add-named c = search needs
 
 list-offer-requires : tie.Need-list-offer-requires
-list-offer-requires c κs = let p = c .before .before .before .before .pre in (omega arith, p .1, none-counted _ _ _ (p .2))
+list-offer-requires c κs = let p = c .before .before .before .before .pre in (omega arith, p .1, none-counted _ _ _ _ (p .2))
 
 enum-known-offer : tie.Need-enum-known-offer
 enum-known-offer c = search needs

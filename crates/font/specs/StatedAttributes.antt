@@ -11,9 +11,10 @@ use Rattle.font.specs.declared.attributes.Attributes.{Attributes}
 use Rattle.font.specs.declared.font.FontAttributes.{FontAttributes}
 use Rattle.font.specs.declared.attributes.Angle.the-variants.{Unstated, Degrees}
 use Rattle.font.specs.declared.attributes.FontStyle.the-variants.{Normal, Italic, Oblique}
-use Rattle.font.specs.declared.font.FontAttributes.the-variants.{Lost, Stated}
+use Rattle.font.specs.declared.font.FontAttributes.the-variants.{Refused, Stated}
 use Rattle.font.specs.Single.{single, fixedToSingle}
 use Rattle.font.specs.Attributes.{attributesOf, defaultAttributes}
+use Rattle.font.specs.Slant.{isReading, slantUnder}
 use Rattle.font.specs.Tables.{u16At, u32At, tableData, Handed, no-table, damaged-table, found-table, handedTable, isDamaged}
 
 -- a table that is not found is handed out as no bytes, in which nothing is read (`proofs/AnyReading.antt`)
@@ -34,17 +35,17 @@ classWidths = 500 ∷ 500 ∷ 625 ∷ 750 ∷ 875 ∷ 1000 ∷ 1125 ∷ 1250 ∷
 unfoldable pub widthOfClass : ℕ → Float
 widthOfClass class = thousandths (getD classWidths class 2000)
 
--- "with the `post` angle (table at least 32 bytes, 16.16 at 4) or unstated if `post` is absent"
-unfoldable pub postAngle : List ℕ → Angle
-postAngle post = cond (present post) (Degrees (fixedToSingle (u32At post 4))) Unstated
+-- "with the `post` angle (table at least 32 bytes, 16.16 at 4) or unstated if `post` is absent"; the second reading "negates the `post` angle on reading"
+unfoldable pub postAngle : ℕ → List ℕ → Angle
+postAngle reading post = cond (present post) (Degrees (slantUnder reading (fixedToSingle (u32At post 4)))) Unstated
 
 -- "fsSelection at 62 .. Bit 0 means italic; otherwise bit 9 means oblique ..; otherwise normal."
-unfoldable pub os2Style : List ℕ → List ℕ → FontStyle
-os2Style os2 post = cond (bit 0 (u16At os2 62)) Italic (cond (bit 9 (u16At os2 62)) (Oblique (postAngle post)) Normal)
+unfoldable pub os2Style : ℕ → List ℕ → List ℕ → FontStyle
+os2Style reading os2 post = cond (bit 0 (u16At os2 62)) Italic (cond (bit 9 (u16At os2 62)) (Oblique (postAngle reading post)) Normal)
 
 -- "weight class at 4, width class at 6"
-unfoldable pub fromOs2Post : List ℕ → List ℕ → Attributes
-fromOs2Post os2 post = attributesOf (widthOfClass (u16At os2 6)) (os2Style os2 post) (single (u16At os2 4))
+unfoldable pub fromOs2Post : ℕ → List ℕ → List ℕ → Attributes
+fromOs2Post reading os2 post = attributesOf (widthOfClass (u16At os2 6)) (os2Style reading os2 post) (single (u16At os2 4))
 
 -- "16-bit macStyle at 44; bit 0 gives weight 700, bit 1 italic."
 unfoldable pub headStyle : ℕ → FontStyle
@@ -57,9 +58,9 @@ unfoldable pub fromHead : List ℕ → Attributes
 fromHead head = attributesOf (single 1) (headStyle (u16At head 44)) (headWeight (u16At head 44))
 
 -- "OS/2, at least 78 bytes .. Without OS/2, `head` (54 bytes) .. Without both: defaults." Of a font that has lost none of the tables that it needs for it.
-unfoldable pub fromTables : List ℕ → ℕ → Attributes
-fromTables file start =
-    cond (present (tableData file start 0x4F532F32 78)) (fromOs2Post (tableData file start 0x4F532F32 78) (tableData file start 0x706F7374 32))
+unfoldable pub fromTables : ℕ → List ℕ → ℕ → Attributes
+fromTables reading file start =
+    cond (present (tableData file start 0x4F532F32 78)) (fromOs2Post reading (tableData file start 0x4F532F32 78) (tableData file start 0x706F7374 32))
     (cond (present (tableData file start 0x68656164 54)) (fromHead (tableData file start 0x68656164 54))
     defaultAttributes)
 
@@ -79,6 +80,9 @@ unfoldable pub losesNeeded : List ℕ → ℕ → Bool
 losesNeeded file start =
     neededDamaged (handedTable file start 0x4F532F32 78) (handedTable file start 0x68656164 54) (handedTable file start 0x706F7374 32)
 
--- what a font says of its attributes: that a table which they need is damaged, or the attributes
-unfoldable pub readAttributes : List ℕ → ℕ → FontAttributes
-readAttributes file start = cond (losesNeeded file start) Lost (Stated (fromTables file start))
+-- what a font says of its attributes: 25 for a value that is no reading, "first below the job"; 31 where a table which they need is damaged; or the attributes
+unfoldable pub readAttributes : ℕ → List ℕ → ℕ → FontAttributes
+readAttributes reading file start =
+    cond (isReading reading)
+    (cond (losesNeeded file start) (Refused 31) (Stated (fromTables reading file start)))
+    (Refused 25)

@@ -1,0 +1,54 @@
+-- What the two readings make of a font: reading 0 is section 2 as it stands without a reading, reading 1 has the stated angle negated, and no refusal of a font depends
+-- on it. Proved in proofs/TwoReadings.antt.
+use Prim.Native.Nat.{ℕ}
+use mathlib.Core.Path.{_≡_}
+use mathlib.Core.Bool.{true, false, cond}
+use mathlib.Core.List.{List}
+use lib.IntN.{negℤ}
+use lib.Dec.{T}
+use lib.Ieee.{Float, binary32, fits, eq, neg}
+use lib.Ieee.Scale.{finite}
+use Rattle.font.specs.declared.attributes.Angle.the-variants.{Unstated, Degrees}
+use Rattle.font.specs.declared.font.FontAttributes.the-variants.{Refused, Stated}
+use Rattle.font.specs.Single.{single, orderNumber, fixedToSingle}
+use Rattle.font.specs.Tables.{u32At}
+use Rattle.font.specs.Collection.{fontStart}
+use Rattle.font.specs.Slant.{isReading, opposite, slantUnder, oppositeAttributes, oppositeFace}
+use Rattle.font.specs.StatedAttributes.{present, postAngle, fromTables, losesNeeded, readAttributes}
+use Rattle.font.specs.Font.{emptyFont, fontRefusal, fromFontRef}
+
+-- ---- a number and its opposite
+
+-- Of a finite single. It has the opposite place in the order; it is a single again, and no minus zero; and the opposite of that is the number, but that a
+-- zero is positive.
+pub record Opposite (x : Float) : Type 0 where
+  pub order : orderNumber (opposite x) ≡ negℤ (orderNumber x)
+  pub held : T (fits binary32 (opposite x))
+  pub number : finite (opposite x) ≡ true
+  pub positive-zero : eq (opposite x) (single 0) ≡ true → opposite x ≡ single 0
+  pub back : eq x (single 0) ≡ false → opposite (opposite x) ≡ x
+
+-- the least 16.16 number, -32768, whose opposite no 16.16 number is; and zero
+pub record Edges : Type 0 where
+  pub least : fixedToSingle 0x80000000 ≡ neg (single 32768)
+  pub turned : slantUnder 1 (fixedToSingle 0x80000000) ≡ single 32768
+  pub zero : slantUnder 1 (fixedToSingle 0) ≡ single 0
+  pub minus-zero : slantUnder 1 (neg (single 0)) ≡ single 0
+  pub kept : slantUnder 0 (neg (single 0)) ≡ neg (single 0)
+
+-- ---- the font of a number
+
+pub record TwoReadings (file : List ℕ) (number : ℕ) : Type 0 where
+  -- reading 0: section 2's sentence
+  pub old : (post : List ℕ) → postAngle 0 post ≡ cond (present post) (Degrees (fixedToSingle (u32At post 4))) Unstated
+  -- reading 1: the same face with its stated angle negated
+  pub attributes : losesNeeded file (fontStart file number) ≡ false
+      → readAttributes 1 file (fontStart file number) ≡ Stated (oppositeAttributes (fromTables 0 file (fontStart file number)))
+  pub face : fromFontRef 1 file number .font ≡ oppositeFace (fromFontRef 0 file number .font)
+  -- both: one refusal
+  pub refusal : (reading : ℕ) → isReading reading ≡ true → fromFontRef reading file number .refusal ≡ fontRefusal file number
+  pub lost : (reading : ℕ) → isReading reading ≡ true → losesNeeded file (fontStart file number) ≡ true
+      → readAttributes reading file (fontStart file number) ≡ Refused 31
+  -- any other number
+  pub unknown : (reading : ℕ) → isReading reading ≡ false → fromFontRef reading file number ≡ record { refusal = 25; font = emptyFont }
+  pub none-stated : (reading : ℕ) → isReading reading ≡ false → readAttributes reading file (fontStart file number) ≡ Refused 25

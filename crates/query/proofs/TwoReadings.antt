@@ -1,0 +1,77 @@
+-- The two readings of a job (`specs/TwoReadings.antt`).
+use Prim.Native.Nat.{ℕ}
+use mathlib.Core.Path.{_≡_, refl, sym, ap, _∙_}
+use mathlib.Core.Bool.{Bool, true, false, cond}
+use mathlib.Core.List.{List}
+use lib.Dec.{ltb}
+use lib.ListN.{length}
+use Rattle.font.specs.declared.font.FontInfo.{FontInfo}
+use Rattle.font.specs.Slant.{isReading, oppositeFace}
+use Rattle.font.proofs.TwoReadings as Font
+use Rattle.matching.specs.Matching.{familyOf}
+use Rattle.matching.specs.Synthesis.{unvaried, synthesized, variesOf, oppositeValues, oppositeSlant}
+use Rattle.matching.proofs.TwoReadings as Matching
+use Rattle.query.specs.declared.answer.Offer.{Offer}
+use Rattle.query.specs.declared.answer.Answer.{Answer}
+use Rattle.query.specs.declared.offers.Offered.{Offered}
+use Rattle.query.specs.declared.offers.Offered.the-variants.{At, Past}
+use Rattle.query.specs.Fields.{NumberedFont}
+use Rattle.query.specs.Entries.{Request}
+use Rattle.query.specs.Job.{Job}
+use Rattle.query.specs.Layout.{layout, JobFits}
+use Rattle.query.specs.View.{View, statedBy, viewBy, viewOf}
+use Rattle.query.specs.Offers.{facesOf, offersOf, faceOfOffer, synthesisOfOffer, offerAt}
+use Rattle.query.specs.Call.{withoutOffer, withSynthesis, answered, requestOfJob, viewAnswer, requestAnswer, answerCall}
+use Rattle.query.specs.Demands.{familyAt}
+use Rattle.query.specs.TwoReadings.{oppositeView, oppositeAnswer, TwoReadings}
+use Rattle.query.proofs.AcceptedJobs.{layout-is-accepted}
+use Rattle.query.proofs.AnswerCases.{no-fourth, called}
+
+-- each font under reading 1 is that of reading 0 with its stated angle negated
+fonts-same : statedBy 1 ≡ (λ (f : NumberedFont). oppositeFace (statedBy 0 f))
+unfolding statedBy
+fonts-same = λ i f. Font.two-readings (f .file) (f .number) .face i
+
+view-same : (job : Job) → viewOf 1 job ≡ oppositeView job
+unfolding viewOf oppositeView
+view-same job = ap (λ (stated : NumberedFont → FontInfo). viewBy stated job) fonts-same
+
+-- over one view, reading 1's answer is reading 0's with the value of `slnt` negated
+module _ (view : View) where
+  synthesis-same : (r : Request) (o : Offer) → synthesisOfOffer view 1 r o ≡ oppositeSlant (synthesisOfOffer view 0 r o)
+  unfolding synthesisOfOffer
+  synthesis-same r o = Matching.two-readings .opposite (faceOfOffer view o .attributes) (variesOf (faceOfOffer view o)) (r .attributes)
+
+  none-same : (n : ℕ) → withoutOffer n ≡ oppositeAnswer (withoutOffer n)
+  unfolding withoutOffer oppositeAnswer unvaried oppositeSlant oppositeValues
+  none-same n = refl
+
+  answered-same : (r : Request) (f : Offered) → answered 1 view r f ≡ oppositeAnswer (answered 0 view r f)
+  unfolding answered withSynthesis oppositeAnswer
+  answered-same r (At o) = rw (no-fourth 1 view r o, no-fourth 0 view r o, synthesis-same r o)
+  answered-same r Past = none-same 1
+
+  answer-same : (job : Job) (k n : ℕ) → viewAnswer 1 view job k n ≡ oppositeAnswer (viewAnswer 0 view job k n)
+  unfolding viewAnswer
+  answer-same job k n = go (ltb k (length (job .requests)))
+    where
+      r : Request
+      r = requestOfJob job k
+
+      go : (b : Bool) → cond b (answered 1 view r (offerAt (offersOf view r) n)) (withoutOffer 28)
+          ≡ oppositeAnswer (cond b (answered 0 view r (offerAt (offersOf view r) n)) (withoutOffer 28))
+      go true = answered-same r (offerAt (offersOf view r) n)
+      go false = none-same 28
+
+pub two-readings : (job : Job) → JobFits job → TwoReadings job
+unfolding requestAnswer isReading
+two-readings job fits =
+    record {
+      order = λ f. ap (λ (view : View). familyOf (facesOf view f) (length (facesOf view f))) (view-same job);
+      list = λ r. ap (λ (view : View). offersOf view r) (view-same job);
+      synthesis = λ r o. ap (λ (view : View). synthesisOfOffer view 1 r o) (view-same job) ∙ synthesis-same (oppositeView job) r o;
+      answers = λ k n.
+          called (layout job) 1 refl k n job _ (layout-is-accepted job fits)
+          ∙ ap (λ (view : View). viewAnswer 1 view job k n) (view-same job)
+          ∙ answer-same (oppositeView job) job k n;
+    }
