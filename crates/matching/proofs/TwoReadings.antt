@@ -86,16 +86,23 @@ three-same bold false x false y (Skewed d) = refl
 
 opposite-same : (own : Attributes) (v : Varies) (a : Attributes) → synthesized 1 own v a ≡ oppositeSlant (synthesized 0 own v a)
 unfolding synthesized widthSetting weightSetting three
-opposite-same own v a = rw (lean-same v (own .style) (a .style)) (three-same _ _ _ _ _ (leanOf 0 v (own .style) (a .style)))
+opposite-same own v a =
+    rw (lean-same v (own .style) (a .style))
+    (three-same (emboldened v (own .weight .value) (a .weight .value))
+    (v .width && not (eqb (orderKey (own .width .ratio)) (orderKey (a .width .ratio))))
+    (mul binary32 (a .width .ratio) (single 100))
+    (v .weight && not (eqb (orderKey (v .«weight_default»)) (orderKey (a .weight .value))))
+    (a .weight .value)
+    (leanOf 0 v (own .style) (a .style)))
+
+refused : (n : ℕ) → unvaried n false (pos 0) ≡ oppositeSlant (unvaried n false (pos 0))
+unfolding unvaried oppositeSlant oppositeValues slnt
+refused n = refl
 
 by-value-same : (font : FontInfo) (a : Attributes) → synthesisOf 1 font a ≡ oppositeSlant (synthesisOf 0 font a)
 unfolding synthesisOf synthesisRefusal isReading
 by-value-same font a = go (cond (eqb (faceRefusal font) 0) (cond (acceptedAttributes a) 0 26) (faceRefusal font))
   where
-    refused : (n : ℕ) → unvaried n false (pos 0) ≡ oppositeSlant (unvaried n false (pos 0))
-    unfolding unvaried oppositeSlant oppositeValues slnt
-    refused n = refl
-
     either : (b : Bool) (n : ℕ)
         → cond b (synthesized 1 (font .attributes) (variesOf font) a) (unvaried n false (pos 0))
         ≡ oppositeSlant (cond b (synthesized 0 (font .attributes) (variesOf font) a) (unvaried n false (pos 0)))
