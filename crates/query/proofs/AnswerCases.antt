@@ -158,7 +158,7 @@ module _ (s : List ℕ) (rows : List (List ℕ)) (p n : ℕ) {wanted : Attribute
     list-is : listedAt s rows p request ≡ offersOf view (requestAt s p)
     unfolding listedAt offersOf requestAt
     list-is =
-        (λ i. offers (λ f. rows-show loaded shows request f i) (requestAt s p .most) (requestAt s p .families) (requestAt s p .fallbacks))
+        (λ i. offers (λ f. rows-show reading loaded shows request f i) (requestAt s p .most) (requestAt s p .families) (requestAt s p .fallbacks))
         ∙ rw (made, asks)
 
     answer-is : answered reading view (requestAt s p) found ≡ answerAt reading s p n

@@ -126,13 +126,13 @@ module _ (s : List ℕ) (reading k n : ℕ) (out : List ℕ) (long : length out 
 
   -- too long, under any reading or none
   too-long : mostBytes < length s → offerCall s reading k n out ≡ unwritten 17 out
+  unfolding checkJob answer readJob number
   too-long l = go (isReading reading) refl
     where
       over : leb (length s) mostBytes ≡ false
       over = lt-leb (length s) mostBytes l
 
       refused-17 : 17 ≡ checkJob s .refusal
-      unfolding checkJob answer readJob number
       refused-17 = rw over
 
       go : (b : Bool) → isReading reading ≡ b → offerCall s reading k n out ≡ unwritten 17 out

@@ -131,19 +131,19 @@ module _ {s : List ℕ} {w : Walked} {before families : List ℕ} {asked : ℕ} 
           overridden .are (length (jobOf s .faces)) (jobOf s .overrides) (omega (arith, faces .long)) (rw number (section .entries))
 
       module _ (i : ℕ) (l : i < length (jobOf s .faces)) where
-        there : EntryRow reading s (entryOf (jobOf s .faces) i) (getD rows i [])
+        abbrev there : EntryRow reading s (entryOf (jobOf s .faces) i) (getD rows i [])
         there = faces .each (jobOf s .faces) lie i (omega (arith, faces-number))
 
-        p : ℕ
+        abbrev p : ℕ
         p = there .entry
 
-        font : NumberedFont
+        abbrev font : NumberedFont
         font = faceAt s p .font
 
-        os : List Override
+        abbrev os : List Override
         os = jobOf s .overrides
 
-        f : FontInfo
+        abbrev f : FontInfo
         f = statedBy reading font
 
         taken : fontRefusal (font .file) (font .number) ≡ 0
@@ -154,6 +154,7 @@ module _ {s : List ℕ} {w : Walked} {before families : List ℕ} {asked : ℕ} 
 
         -- before the overrides
         stated : getD rows i [] ≡ rowOf (f .attributes) (marks p (faceAt s p .held) (axisIn font slnt))
+        unfolding attributesIn rowAt statedBy
         stated =
             there .is
             ∙ ap (λ (a : Attributes). rowOf a (marks p (faceAt s p .held) (axisIn font slnt))) (attributes-of-face reading (font .file) (font .number) taken-under)
@@ -162,7 +163,7 @@ module _ {s : List ℕ} {w : Walked} {before families : List ℕ} {asked : ℕ} 
         slant = stated-axis reading font slnt taken-under ∙ sym (after-axis os i f slnt)
 
         -- the row of the face i by its entry
-        seen : Face → List ℕ
+        abbrev seen : Face → List ℕ
         seen x =
             rowOf (afterOverrides os i (statedBy reading (x .font)) .attributes)
             (marks p (x .held) (hasAxis (afterOverrides os i (statedBy reading (x .font))) slnt))

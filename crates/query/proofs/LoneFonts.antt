@@ -269,8 +269,8 @@ module _ (i j : Job) (fits-i : JobFits i) (fits-j : JobFits j) (same : SameJobs 
 
     -- a value that is no reading is refused by both
     none-read : (job : Job) → JobFits job → isReading reading ≡ false → answerCall (layout job) reading k n ≡ withoutOffer 25
-    none-read job fits none =
-        sym (no-reading (layout job) reading none k n) ∙ ap (λ (b : Bool). withoutOffer (cond b 25 17)) (le-leb (length (layout job)) mostBytes (fits .bytes))
+    none-read job fits unread =
+        sym (no-reading (layout job) reading unread k n) ∙ ap (λ (b : Bool). withoutOffer (cond b 25 17)) (le-leb (length (layout job)) mostBytes (fits .bytes))
 
     answers-alike : AnswersAlike i j (answerCall (layout i) reading k n) (answerCall (layout j) reading k n)
     answers-alike = go (isReading reading) refl

@@ -164,7 +164,7 @@ none-counted s rows request families fresh = record { right = λ f l n. absurd (
 
 -- ---- rows of a view
 
-module _ {reading : ℕ} {s : List ℕ} {rows : List (List ℕ)} {families : List ℕ} (loaded : TablesOf s rows families) (shows : RowsShow reading s rows) where
+module _ (reading : ℕ) {s : List ℕ} {rows : List (List ℕ)} {families : List ℕ} (loaded : TablesOf s rows families) (shows : RowsShow reading s rows) where
   abbrev view : View
   view = viewOf reading (jobOf s)
 

@@ -3,12 +3,16 @@ use Prim.Native.Nat.{ℕ}
 use mathlib.Core.Path.{_≡_, refl, sym, ap, _∙_}
 use mathlib.Core.Bool.{Bool, true, false, cond}
 use mathlib.Core.List.{List}
+use native.Mathlib.Omega.{arith}
 use lib.Dec.{ltb}
 use lib.ListN.{length}
+use borrow.Author.Tests.{ne-eqb}
+use Rattle.font.specs.declared.charmap.CharmapIndex.{CharmapIndex}
 use Rattle.font.specs.declared.font.FontInfo.{FontInfo}
 use Rattle.font.specs.Slant.{isReading, oppositeFace}
 use Rattle.font.proofs.TwoReadings as Font
-use Rattle.matching.specs.Matching.{familyOf}
+use Rattle.matching.specs.declared.synthesis.Synthesis.{Synthesis}
+use Rattle.matching.specs.Matching.{familyOf, slnt}
 use Rattle.matching.specs.Synthesis.{unvaried, synthesized, variesOf, oppositeValues, oppositeSlant}
 use Rattle.matching.proofs.TwoReadings as Matching
 use Rattle.query.specs.declared.answer.Offer.{Offer}
@@ -43,12 +47,20 @@ module _ (view : View) where
   synthesis-same r o = Matching.two-readings .opposite (faceOfOffer view o .attributes) (variesOf (faceOfOffer view o)) (r .attributes)
 
   none-same : (n : ℕ) → withoutOffer n ≡ oppositeAnswer (withoutOffer n)
-  unfolding withoutOffer oppositeAnswer unvaried oppositeSlant oppositeValues
+  unfolding withoutOffer oppositeAnswer unvaried oppositeSlant oppositeValues slnt
   none-same n = refl
 
+  -- an answer with an offer, whose synthesis is not refused
+  offer-same : (o : Offer) (made : Synthesis) (index : CharmapIndex) → made .refusal ≡ 0
+      → withSynthesis o (oppositeSlant made) index ≡ oppositeAnswer (withSynthesis o made index)
+  unfolding withSynthesis oppositeAnswer oppositeSlant
+  offer-same o made index z = rw (ne-eqb (made .refusal) 29 (λ e. omega arith))
+
   answered-same : (r : Request) (f : Offered) → answered 1 view r f ≡ oppositeAnswer (answered 0 view r f)
-  unfolding answered withSynthesis oppositeAnswer
-  answered-same r (At o) = rw (no-fourth 1 view r o, no-fourth 0 view r o, synthesis-same r o)
+  unfolding answered
+  answered-same r (At o) =
+      let index = faceOfOffer view o .«charmap_index» in
+      ap (λ (made : Synthesis). withSynthesis o made index) (synthesis-same r o) ∙ offer-same o (synthesisOfOffer view 0 r o) index (no-fourth 0 view r o)
   answered-same r Past = none-same 1
 
   answer-same : (job : Job) (k n : ℕ) → viewAnswer 1 view job k n ≡ oppositeAnswer (viewAnswer 0 view job k n)

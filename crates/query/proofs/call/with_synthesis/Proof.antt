@@ -1,5 +1,6 @@
 -- `query::call::with_synthesis` meets its contract.
 -- Assumes nothing.
+use Prim.Native.Nat.{ℕ}
 use mathlib.Core.Path.{_≡_, sym, ap, _∙_}
 use borrow.Author.Tests.{eq-eqb, ne-eqb}
 use borrow.Author.Needs.{needs}
@@ -12,8 +13,9 @@ use Rattle.query.specs.Call.{withSynthesis}
 use Rattle.query.proofs.call.with_synthesis.Statement.{statement}
 use Rattle.query.proofs.call.with_synthesis.Tie as tie
 
-made : (f : FontInfo) (a : Attributes) (v : Varies) (own : Attributes) → v ≡ variesOf f → (r : Synthesis) → r ≡ synthesized own v a → r ≡ synthesized own (variesOf f) a
-made f a v own seen r from = from ∙ ap (λ (x : Varies). synthesized own x a) seen
+made : (reading : ℕ) (f : FontInfo) (a : Attributes) (v : Varies) (own : Attributes) → v ≡ variesOf f → (r : Synthesis) → r ≡ synthesized reading own v a
+    → r ≡ synthesized reading own (variesOf f) a
+made reading f a v own seen r from = from ∙ ap (λ (x : Varies). synthesized reading own x a) seen
 
 varies-requires : tie.Need-varies-requires
 varies-requires c κs = search needs
@@ -27,13 +29,13 @@ without-offer-requires c κs = search needs
 returns : tie.Need-returns
 unfolding withSynthesis
 returns c =
-    rw (eq-eqb _ 29 (sym (ap (λ (x : Synthesis). x .refusal) (made _ _ _ _ (c .before .before .before .before .varies .ensures) _ (c .before .before .before .synthesize .ensures))) ∙ c .before .if1 .taken))
+    rw (eq-eqb _ 29 (sym (ap (λ (x : Synthesis). x .refusal) (made _ _ _ _ _ (c .before .before .before .before .varies .ensures) _ (c .before .before .before .synthesize .ensures))) ∙ c .before .if1 .taken))
     (c .without-offer .ensures)
 
 returns-2 : tie.Need-returns-2
 unfolding withSynthesis
 returns-2 c =
-    let is = made _ _ _ _ (c .before .before .before .before .varies .ensures) _ (c .before .before .before .synthesize .ensures) in
+    let is = made _ _ _ _ _ (c .before .before .before .before .varies .ensures) _ (c .before .before .before .synthesize .ensures) in
     rw (ne-eqb _ 29 (λ z. c .before .if1 .left (ap (λ (x : Synthesis). x .refusal) is ∙ z)))
     (ap (λ (x : Synthesis). record { result = 0; offer = c .before .before .before .before .before .before .args .offer; synthesis = x; «charmap_index» = c .before .before .before .before .before .before .args .font .«charmap_index» }) is)
 

@@ -33,17 +33,17 @@ module _ (s : List ℕ) (p : ℕ) {file : List ℕ} {end : ℕ} {behind : Behind
     not-refused : fontRefusal file (behind .number) ≡ 0
     not-refused = ap (λ (f : NumberedFont). fontRefusal (f .file) (f .number)) font-is ∙ taken
 
-    font-of : {reading : ℕ} {font : FontInfo} → isReading reading ≡ true → font ≡ faceOf reading file (fontStart file (behind .number))
+    font-of : (reading : ℕ) {font : FontInfo} → isReading reading ≡ true → font ≡ faceOf reading file (fontStart file (behind .number))
         → font ≡ statedBy reading (faceAt s p .font)
     unfolding statedBy
-    font-of {reading} known e =
+    font-of reading known e =
         e
         ∙ sym (accepted-face reading file (behind .number) (under-reading reading file (behind .number) known ∙ not-refused))
         ∙ ap (λ (f : NumberedFont). statedBy reading f) font-is
 
-few-stated-axes : {reading : ℕ} (f : NumberedFont) {font : FontInfo} → font ≡ statedBy reading f → font .«axis_count» ≤ 16
+few-stated-axes : (reading : ℕ) (f : NumberedFont) {font : FontInfo} → font ≡ statedBy reading f → font .«axis_count» ≤ 16
 unfolding statedBy
-few-stated-axes {reading} f e = rw e (few-axes reading (f .file) (f .number))
+few-stated-axes reading f e = rw e (few-axes reading (f .file) (f .number))
 
 file-at-requires : tie.Need-file-at-requires
 file-at-requires c κs = search needs
@@ -72,9 +72,9 @@ overridden-requires c κs =
     let read = c .before in
     let behind = read .before in
     let start = behind .before .before .before .before .args in
-    let font = font-of _ _ (behind .before .before .file-at .ensures) (behind .behind-file .ensures) (behind .before .file-end .ensures .0) (behind .before .before .before .before .pre .1 .1) (behind .before .before .before .before .pre .1 .0) (read .read-font .ensures) in
+    let font = font-of _ _ (behind .before .before .file-at .ensures) (behind .behind-file .ensures) (behind .before .file-end .ensures .0) (behind .before .before .before .before .pre .1 .1) (start .reading) (behind .before .before .before .before .pre .1 .0) (read .read-font .ensures) in
     let given = behind .before .before .before .before .pre .0 in
-    (omega (arith, given .0), omega (arith, given .2, c .u16-at .ensures), few-stated-axes (faceAt (start .job .now) (start .entry) .font) font)
+    (omega (arith, given .0), omega (arith, given .2, c .u16-at .ensures), few-stated-axes (start .reading) (faceAt (start .job .now) (start .entry) .font) font)
 
 returns : tie.Need-returns
 returns c =
@@ -86,7 +86,7 @@ returns c =
           λ n os lies.
           c .overridden .ensures .is n os (rw (c .before .u16-at .ensures) (counted-lies mostOverrides (readOverride n) (start .job .now) (start .section) os lies))
           ∙ ap (λ (f : FontInfo). afterOverrides os (start .number) f)
-          (font-of (start .job .now) (start .entry) (behind .before .before .file-at .ensures) (behind .behind-file .ensures) (behind .before .file-end .ensures .0) (behind .before .before .before .before .pre .1 .1) (behind .before .before .before .before .pre .1 .0) (read .read-font .ensures));
+          (font-of (start .job .now) (start .entry) (behind .before .before .file-at .ensures) (behind .behind-file .ensures) (behind .before .file-end .ensures .0) (behind .before .before .before .before .pre .1 .1) (start .reading) (behind .before .before .before .before .pre .1 .0) (read .read-font .ensures));
     }
 
 pub offered-face-spec : {M : Type 1} → statement M
