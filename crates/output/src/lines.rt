@@ -102,15 +102,16 @@ fn print_requests(job: &[u8], reading: u32, count: u32, indexed: bool) {
 fn checked_under(job: &[u8], reading: u32) -> Checked
     ensures { λ r. ⌜ r ≡ checkedUnder (now (job .entry)) reading ⌝ }
 {
-    if !slant::is_reading(reading) {
-        if job.len() <= MOST_BYTES {
-            return Checked {
-                refusal: 25,
-                position: 0,
-            };
-        }
+    if slant::is_reading(reading) {
+        return job::check(job);
     }
-    job::check(job)
+    if MOST_BYTES < job.len() {
+        return job::check(job);
+    }
+    Checked {
+        refusal: 25,
+        position: 0,
+    }
 }
 
 // Prints what section 7's program prints for a job under a reading, and where `indexed` the charmap index of each offer

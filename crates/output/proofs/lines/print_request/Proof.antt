@@ -5,10 +5,10 @@ use Rattle.output.proofs.lines.print_request.Statement.{statement}
 use Rattle.output.proofs.lines.print_request.Tie as tie
 
 abbrev Inv-loop : tie.InvT-loop
-Inv-loop job request indexed cursor₀ n₀ cursor n = Unit {0}
+Inv-loop job reading request indexed cursor₀ n₀ cursor n = Unit {0}
 
 abbrev μ-loop : tie.MeasureT-loop
-μ-loop job request indexed cursor₀ n₀ cursor n = 65536 - n
+μ-loop job reading request indexed cursor₀ n₀ cursor n = 65536 - n
 
 new-requires : tie.Need-new-requires Inv-loop μ-loop
 new-requires c κs = search needs

@@ -5,10 +5,10 @@ use Rattle.output.proofs.lines.print_requests.Statement.{statement}
 use Rattle.output.proofs.lines.print_requests.Tie as tie
 
 abbrev Inv-loop : tie.InvT-loop
-Inv-loop job count indexed request₀ request = Unit {0}
+Inv-loop job reading count indexed request₀ request = Unit {0}
 
 abbrev μ-loop : tie.MeasureT-loop
-μ-loop job count indexed request₀ request = count - request
+μ-loop job reading count indexed request₀ request = count - request
 
 loop-holds : tie.Need-loop-holds Inv-loop μ-loop
 loop-holds c = search needs
