@@ -127,7 +127,7 @@ def equal_list(family, chosen):
     return [] if chosen is None else [place for place, face in enumerate(family) if face[0] == family[chosen][0]]
 
 
-# Section 5, without the skew: the tags that are set; a face that is not normal gets no setting of style.
+# Section 5: the tags that are set. A face that is not normal gets no setting of style.
 
 
 def settings(face, request):
@@ -215,10 +215,10 @@ def slant(name, face, request):
         number = 19 if face[2] > 16 else 0 if accepted_face(face) and accepted(request) else 26
 
         def made():
-            found = settings(face, request)
-            values = {"slnt": lambda: slant_value(reading, request[1])}
-            tag, value = (found[0], values[found[0]]()) if found else ("\0\0\0\0", 0.0)
-            return f"{len(found)} {tag.encode().hex()} {struct.pack('>f', value).hex()}"
+            set_to = {tag: slant_value(reading, request[1]) for tag in settings(face, request)}
+            skewed = face[0][1] is NORMAL and request[1] is not NORMAL and not set_to
+            skew = [str(int(request[1]) if skewed else 0)]
+            return " ".join(skew + [f"{tag}={struct.pack('>f', value).hex()}" for tag, value in set_to.items()])
 
         print(f"slant {name}, reading {reading}: {told(number if reading < 2 else 25, made)}")
 

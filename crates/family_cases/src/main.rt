@@ -7,11 +7,11 @@
 //     match NAME: CHOICE; LIST; DEFAULT
 //     fetch NAME: AXES
 //     synthesis NAME: EMBOLDEN COUNT TAG TAG TAG
-//     slant NAME, reading N: COUNT TAG VALUE
+//     slant NAME, reading N: SKEW TAG=VALUE
 //
 // with `refused N` in the place of each answer that is a refusal. CHOICE is a place or `-`, LIST how many places the equal
 // list has and, where it has one, the first of them. AXES says how many axes the fetched face has. A synthesis is made
-// under reading 0. A slant is one under each reading and under two numbers that are none, with the first slot by its bits.
+// under reading 0. A slant is one under each reading and under two numbers that are none, with each value by its bits.
 use font::attributes::Angle;
 use font::attributes::Attributes;
 use font::attributes::FontStyle;
@@ -27,6 +27,7 @@ use matching::family::Made;
 use matching::matching::Choice;
 use matching::matching::Matches;
 use matching::synthesis::Synthesis;
+use output::words;
 
 const SLNT: u32 = 0x736C_6E74;
 
@@ -115,14 +116,6 @@ fn print_synthesis(synthesis: Synthesis) {
     print_tag(tags[0]);
     print_tag(tags[1]);
     print_tag(tags[2]);
-}
-
-// The bits of a value. No setting is a NaN, for which 0 would be printed.
-fn bits_of(value: f32) -> u32 {
-    if value != value {
-        return 0;
-    }
-    f32::to_bits(value)
 }
 
 // Making values.
@@ -275,15 +268,12 @@ fn synthesize(name: &[u8], font: FontInfo, request: Attributes) {
 }
 
 fn print_slant(synthesis: Synthesis) {
-    let tags = synthesis.tags;
-    let values = synthesis.values;
     if synthesis.refusal != 0 {
         print_refused(synthesis.refusal);
         return;
     }
-    print_number(b" ", synthesis.len as usize);
-    print_tag(tags[0]);
-    print_tag(bits_of(values[0]));
+    words::print_skew(synthesis.skew);
+    words::print_settings(synthesis);
 }
 
 // The synthesis of a face for a style under a reading.
@@ -496,7 +486,7 @@ fn slants() {
     slant(b"oblique -12", with_axes(2), oblique(-12.0));
     slant(b"oblique 0", with_axes(2), oblique(0.0));
     slant(b"oblique -0", with_axes(2), oblique(-0.0));
-    slant(b"oblique 1e-45", with_axes(2), oblique(f32::from_bits(1)));
+    slant(b"oblique 1e-45", with_axes(2), oblique(1e-45));
     slant(b"normal", with_axes(2), Attributes::DEFAULT);
     slant(b"no axis", with_axes(0), oblique(12.0));
     slant(b"17 axes", with_axes(17), oblique(12.0));

@@ -32,6 +32,12 @@ add-if1 c = search needs
 returns : tie.Need-returns Inv-loop μ-loop
 returns c = search needs
 
+u32-at-requires-2 : tie.Need-u32-at-requires-2 Inv-loop μ-loop
+u32-at-requires-2 c κs = search needs
+
+add-u16-at : tie.Need-add-u16-at Inv-loop μ-loop
+add-u16-at c = search needs
+
 u16-at-requires : tie.Need-u16-at-requires Inv-loop μ-loop
 u16-at-requires c κs = search needs
 
@@ -75,6 +81,8 @@ print-list-spec =
     add-end
     add-if1
     returns
+    u32-at-requires-2
+    add-u16-at
     u16-at-requires
     sub-from-font-ref
     part-from-font-ref-start
