@@ -6,6 +6,9 @@ use plain::offers::OUTPUT;
 
 use crate::{bytes::fonts_stated, damage::Expected, layout::Job};
 
+/// The bytes of an offer.
+pub type Record = [u8; OUTPUT];
+
 #[derive(Copy, Clone, Default, PartialEq, Eq, Debug)]
 pub struct Counts {
     pub jobs: u64,
@@ -18,10 +21,21 @@ pub struct Counts {
     pub faces: u64,
     pub collected: u64,
     pub requests: u64,
-    pub offers: u64,
-    /// Offers with embolden, a skew, or settings.
-    pub synthesized: u64,
+    /// Offers under each reading, and those of them with embolden, a skew, or
+    /// settings.
+    pub offers: [u64; 2],
+    pub synthesized: [u64; 2],
+    pub differing: Differing,
     pub asked: Asked,
+}
+
+/// Requests that are answered otherwise under the two readings.
+#[derive(Copy, Clone, Default, PartialEq, Eq, Debug)]
+pub struct Differing {
+    /// Other faces are offered, or in another order.
+    pub faces: u64,
+    /// The same faces, with other settings.
+    pub settings: u64,
 }
 
 /// Fonts that the original was asked for, and those that were left out: what
@@ -66,12 +80,22 @@ impl Counts {
         self.collected += collected.count() as u64;
     }
 
-    /// A request by the records of its offers.
-    pub fn request(&mut self, list: &[[u8; OUTPUT]]) {
+    /// A request by the records of its offers under each reading.
+    pub fn request(&mut self, lists: [&[Record]; 2]) {
         self.requests += 1;
-        self.offers += list.len() as u64;
-        let synthesized = list.iter().filter(|record| record[4..7] != [0; 3]);
-        self.synthesized += synthesized.count() as u64;
+        for (reading, list) in lists.iter().enumerate() {
+            let synthesized = list.iter().filter(|record| record[4..7] != [0; 3]);
+            self.offers[reading] += list.len() as u64;
+            self.synthesized[reading] += synthesized.count() as u64;
+        }
+        let [old, new] = lists;
+        let faces = |list: &[Record]| -> Vec<[u8; 4]> {
+            let face = |record: &Record| [record[0], record[1], record[2], record[3]];
+            list.iter().map(face).collect()
+        };
+        let other_faces = faces(old) != faces(new);
+        self.differing.faces += u64::from(other_faces);
+        self.differing.settings += u64::from(!other_faces && old != new);
     }
 
     /// The jobs by their answers, as lines.
@@ -90,9 +114,17 @@ impl Counts {
         format!("faces {} from collections {}", self.faces, self.collected)
     }
 
-    /// The offers, without a line end.
+    /// The offers under each reading, and what differs between the two, as lines.
     pub fn offers_text(&self) -> String {
-        format!("offers {} with synthesis {}", self.offers, self.synthesized)
+        let Differing { faces, settings } = self.differing;
+        let of_reading = |reading: usize| {
+            let (offers, synthesized) = (self.offers[reading], self.synthesized[reading]);
+            format!("reading {reading}: offers {offers} with synthesis {synthesized}\n")
+        };
+        let differing = format!(
+            "requests that differ between the readings: {faces} in the faces, {settings} in settings alone\n"
+        );
+        of_reading(0) + &of_reading(1) + &differing
     }
 }
 

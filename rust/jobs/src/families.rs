@@ -9,6 +9,7 @@ use crate::{
     random::Random,
 };
 
+pub mod readings;
 pub mod stages;
 
 /// An axis as `fvar` gives it, and a default that an override sets. An
@@ -115,17 +116,22 @@ fn plain(ratio: f32, style: Style, weight: f32) -> FacePlan {
 }
 
 fn slanted(style: Style) -> FacePlan {
-    let fixed = FixedAxis {
-        tag: *b"slnt",
-        min: 0xfff1_0000,
-        default: 0,
-        max: 0,
+    with_axes(style, &[*b"slnt"])
+}
+
+/// A face of width 1 and weight 400 with axes from -15 to 0.
+fn with_axes(style: Style, tags: &[[u8; 4]]) -> FacePlan {
+    let axis = |tag: &[u8; 4]| AxisPlan {
+        fixed: FixedAxis {
+            tag: *tag,
+            min: 0xfff1_0000,
+            default: 0,
+            max: 0,
+        },
+        default: None,
     };
     FacePlan {
-        axes: vec![AxisPlan {
-            fixed,
-            default: None,
-        }],
+        axes: tags.iter().map(axis).collect(),
         ..plain(1.0, style, 400.0)
     }
 }
@@ -138,12 +144,14 @@ fn styles(list: &[Style]) -> Vec<FacePlan> {
     list.iter().map(|s| plain(1.0, *s, 400.0)).collect()
 }
 
-/// The cases for a purpose: those of section 7, then the stages.
+/// The cases for a purpose: those of section 7, the stages, then those whose
+/// synthesis depends on the reading.
 pub fn made() -> Vec<Case> {
     let stages = stages::stages();
     let cases = stages.iter().flat_map(|stage| stage.cases());
     let mut out = faces_to_try();
     out.extend(cases.map(|(case, _)| case));
+    out.extend(readings::cases());
     out
 }
 

@@ -1,40 +1,78 @@
 //! The list of small fonts: those made for a purpose, then random ones.
 
-use crate::{
-    bytes::*,
-    fonts::{Numbered, random_file},
-    random::Random,
-};
+use crate::{bytes::*, fonts::random_file, random::Random, readings::random};
 
 mod cmap;
 mod collections;
 mod damaged;
 mod fvar;
+mod readings;
 mod states;
 
 /// How many fonts of the list are made at random.
 const RANDOM_FONTS: usize = 240;
 
-#[derive(Default)]
-pub struct List {
-    pub fonts: Vec<(String, Numbered)>,
+/// A font file, the reading, and the number of a font in the file.
+#[derive(Clone, PartialEq, Eq, Debug)]
+pub struct Entry {
+    pub file: Vec<u8>,
+    pub reading: u32,
+    pub number: u16,
 }
 
-/// A font as it stands in the list: the length, the file, the font number.
-pub fn put(list: &mut Vec<u8>, (file, number): &Numbered) {
-    list.extend((file.len() as u32).to_be_bytes());
-    list.extend(file);
-    list.extend(number.to_be_bytes());
+impl Entry {
+    pub fn new(file: &[u8], reading: u32, number: u16) -> Self {
+        let file = file.to_vec();
+        Self {
+            file,
+            reading,
+            number,
+        }
+    }
+
+    /// One at random.
+    pub fn random(r: &mut Random) -> Self {
+        let (file, number) = random_file(r);
+        Self::new(&file, random(r), number)
+    }
+
+    /// As it stands in a list: the length, the file, the reading, the number.
+    pub fn put(&self, list: &mut Vec<u8>) {
+        list.extend((self.file.len() as u32).to_be_bytes());
+        list.extend(&self.file);
+        list.extend(self.reading.to_be_bytes());
+        list.extend(self.number.to_be_bytes());
+    }
+}
+
+/// Most bytes of the list.
+pub const BYTES: usize = 327_680;
+
+#[derive(Default)]
+pub struct List {
+    pub fonts: Vec<(String, Entry)>,
 }
 
 impl List {
-    fn add(&mut self, label: impl Into<String>, bytes: Vec<u8>) {
-        self.fonts.push((label.into(), (bytes, 0)));
+    fn add_entry(&mut self, label: impl Into<String>, entry: Entry) {
+        self.fonts.push((label.into(), entry));
     }
 
+    /// The first font of a file, under reading 0.
+    fn add(&mut self, label: impl Into<String>, file: Vec<u8>) {
+        self.add_entry(label, Entry::new(&file, 0, 0));
+    }
+
+    /// The font of a number, under reading 0.
     fn add_numbered(&mut self, label: &str, file: &[u8], number: u16) {
         let label = format!("{label}, font {number}");
-        self.fonts.push((label, (file.to_vec(), number)));
+        self.add_entry(label, Entry::new(file, 0, number));
+    }
+
+    /// The font of a number, under any reading.
+    fn add_read(&mut self, label: &str, file: &[u8], reading: u32, number: u16) {
+        let label = format!("{label}, reading {reading}");
+        self.add_entry(label, Entry::new(file, reading, number));
     }
 
     /// A font with a plain `cmap` after the given tables.
@@ -59,10 +97,10 @@ pub fn list(seed: u64) -> List {
     orders_of_refusal(&mut list);
     collections::collections(&mut list);
     damaged::damaged_tables(&mut list);
+    readings::readings(&mut list);
     let mut r = Random::new(seed);
     for i in 0..RANDOM_FONTS {
-        let font = random_file(&mut r);
-        list.fonts.push((format!("random {i}"), font));
+        list.add_entry(format!("random {i}"), Entry::random(&mut r));
     }
     list
 }
@@ -336,8 +374,8 @@ mod tests {
     fn list_is_small_and_repeats() {
         let one = list(1);
         let mut bytes = Vec::new();
-        one.fonts.iter().for_each(|(_, font)| put(&mut bytes, font));
-        assert!(bytes.len() <= 262_144, "{}", bytes.len());
+        one.fonts.iter().for_each(|(_, font)| font.put(&mut bytes));
+        assert!(bytes.len() <= BYTES, "{}", bytes.len());
         assert_eq!(one.fonts, list(1).fonts);
     }
 }

@@ -60,7 +60,10 @@ fn random_table(r: &mut Random, tag: [u8; 4]) -> Table {
             };
             os2(weight, r.below(11) as u16, selection)
         }
-        b"post" => post(r.bits() >> r.below(32)),
+        b"post" => {
+            let angle = r.bits() >> r.below(32);
+            post(r.pick(&[angle, angle.wrapping_neg()]))
+        }
         b"head" => head(r.bits() as u16 >> r.below(16)),
         b"fvar" => {
             let count = if r.chance(1, 24) {

@@ -133,8 +133,29 @@ struct Fonts<'a> {
     pools: &'a Pools,
     /// No attributes of their own.
     bare: bool,
+    /// Most of them oblique, with an angle.
+    leaning: bool,
     /// Held in so many of four.
     held: usize,
+}
+
+impl<'a> Fonts<'a> {
+    fn draw(r: &mut Random, shape: Shape, pools: &'a Pools) -> Self {
+        let spread = spread(r);
+        // Many faces are small ones, with one axis at most.
+        let bare = shape == Shape::ManyFaces;
+        Self {
+            spread: if bare && !matches!(spread, Spread::Slant) {
+                Spread::Bare
+            } else {
+                spread
+            },
+            pools,
+            bare,
+            leaning: r.chance(1, 6),
+            held: r.pick(&[1, 3, 4, 4]),
+        }
+    }
 }
 
 /// So many faces, in one of six from a collection.
@@ -199,7 +220,7 @@ fn font(r: &mut Random, fonts: Fonts<'_>) -> Member {
     let mut tables: Vec<Table> = vec![(*b"cmap", small_cmap(r))];
     let mut unneeded = Vec::new();
     if !bare {
-        unneeded = attribute_tables(r, &mut tables);
+        unneeded = attribute_tables(r, fonts, &mut tables);
     }
     let mut axes = axes(r, spread, pools);
     // Just within the limit, or over it.
@@ -230,18 +251,20 @@ fn font(r: &mut Random, fonts: Fonts<'_>) -> Member {
 
 /// Puts the tables of the attributes, or none. Gives what may stand behind
 /// them though it is damaged: nothing of it is needed.
-fn attribute_tables(r: &mut Random, tables: &mut Vec<Table>) -> Vec<Table> {
+fn attribute_tables(r: &mut Random, fonts: Fonts<'_>, tables: &mut Vec<Table>) -> Vec<Table> {
     let mut unneeded: Vec<Table> = Vec::new();
-    if r.chance(3, 10) {
+    if r.chance(if fonts.leaning { 9 } else { 3 }, 10) {
         let weight = r.pick(&[100, 300, 400, 400, 500, 700, 900, 65535]);
         let width = r.pick(&[0, 1, 3, 4, 5, 5, 5, 6, 8, 9]);
-        let selection = r.pick(&[0, 0, 0, 1, 0x0200, 0x0201]);
+        let selection = match r.below(4) {
+            1.. if fonts.leaning => 0x0200,
+            _ => r.pick(&[0, 0, 0, 1, 0x0200, 0x0200, 0x0201]),
+        };
         tables.push((*b"OS/2", os2(weight, width, selection)));
         if selection != 0x0200 {
             unneeded.push((*b"post", post(0)));
-        } else if r.chance(2, 3) {
-            let angle = r.pick(&[0x000e_0000, 0xfff2_0000, 0x0014_0000, 0, 0xfff4_8000]);
-            tables.push((*b"post", post(angle)));
+        } else if r.chance(3, 4) {
+            tables.push((*b"post", post(post_angle(r, fonts.pools))));
             unneeded.push((*b"post", post(0)));
         }
         unneeded.push((*b"head", head(3)));
@@ -261,14 +284,46 @@ fn attribute_tables(r: &mut Random, tables: &mut Vec<Table>) -> Vec<Table> {
     unneeded
 }
 
+/// Angles of `post`: those that section 4 parts, of both signs, and the ends.
+const POST_ANGLES: [u32; 12] = [
+    0x000e_0000,
+    0xfff2_0000,
+    0x0014_0000,
+    0xffec_0000,
+    0x000b_8000,
+    0xfff4_8000,
+    0,
+    0,
+    1,
+    0xffff_ffff,
+    0x7fff_ffff,
+    0x8000_0000,
+];
+
+/// An angle of the job's styles or its opposite, so that fonts and overrides
+/// often have the same; or another.
+fn post_angle(r: &mut Random, pools: &Pools) -> u32 {
+    let style = r.pick(&pools.styles);
+    if style.kind != 3 || r.chance(1, 2) {
+        return r.pick(&POST_ANGLES);
+    }
+    let fixed = (f32::from_bits(style.angle) * 65536.0) as i32;
+    r.pick(&[fixed, fixed.wrapping_neg()]) as u32
+}
+
 /// Leaves less of a table than is needed.
 fn cut(r: &mut Random, (_, bytes): &mut Table, needed: usize) {
     let any = r.below(needed);
     bytes.truncate(r.pick(&[0, 1, needed - 1, needed - 1, any]));
 }
 
-fn override_entry(r: &mut Random, face: usize, pools: &Pools) -> Override {
-    let mask = r.pick(&[7, 7, 7, 7, 0, 1, 2, 3, 4, 5, 6]);
+fn override_entry(r: &mut Random, face: usize, fonts: Fonts<'_>) -> Override {
+    let pools = fonts.pools;
+    let mut mask = r.pick(&[7, 7, 7, 7, 0, 1, 2, 3, 4, 5, 6]);
+    // Most faces that lean do so by what their files say.
+    if fonts.leaning && r.chance(3, 4) {
+        mask &= !2;
+    }
     let pairs = if r.chance(1, 4) {
         let most = r.pick(&[1, 2, 3, 6]);
         some(r, 1, most, |r| {
@@ -292,7 +347,7 @@ fn override_entry(r: &mut Random, face: usize, pools: &Pools) -> Override {
     }
 }
 
-fn overrides(r: &mut Random, shape: Shape, faces: usize, pools: &Pools) -> Vec<Override> {
+fn overrides(r: &mut Random, shape: Shape, faces: usize, fonts: Fonts<'_>) -> Vec<Override> {
     if faces == 0 {
         return Vec::new();
     }
@@ -301,7 +356,7 @@ fn overrides(r: &mut Random, shape: Shape, faces: usize, pools: &Pools) -> Vec<O
     for face in 0..faces {
         // Later ones for the same face win.
         while r.chance(part, 5) && out.len() < 256 {
-            out.push(override_entry(r, face, pools));
+            out.push(override_entry(r, face, fonts));
             if r.chance(4, 5) {
                 break;
             }
@@ -311,7 +366,7 @@ fn overrides(r: &mut Random, shape: Shape, faces: usize, pools: &Pools) -> Vec<O
         let count = r.pick(&[100, 255, 256]);
         while out.len() < count {
             let face = r.below(faces);
-            out.push(override_entry(r, face, pools));
+            out.push(override_entry(r, face, fonts));
         }
         let long = r.below(out.len());
         out[long].pairs = (0..255)
@@ -443,23 +498,11 @@ pub fn full_override(r: &mut Random, face: usize) -> Override {
 pub fn job(r: &mut Random) -> Job {
     let shape = shape(r);
     let pools = pools(r);
-    let spread = spread(r);
+    let fonts = Fonts::draw(r, shape, &pools);
     let count = match shape {
         Shape::ManyFaces => r.pick(&[40, 64, 65, 200, 255, 256, 256, 256]),
         _ if r.chance(1, 40) => 0,
         _ => r.pick(&[1, 2, 2, 3, 3, 4, 4, 5, 6, 8, 12]),
-    };
-    // Many faces are small ones, with one axis at most.
-    let bare = shape == Shape::ManyFaces;
-    let fonts = Fonts {
-        spread: if bare && !matches!(spread, Spread::Slant) {
-            Spread::Bare
-        } else {
-            spread
-        },
-        pools: &pools,
-        bare,
-        held: r.pick(&[1, 3, 4, 4]),
     };
     let faces = faces(r, count, fonts);
     let families = families(r, shape, faces.len());
@@ -469,7 +512,7 @@ pub fn job(r: &mut Random) -> Job {
         _ => r.pick(&[0, 1, 1, 2, 2, 3, 4, 6]),
     };
     Job {
-        overrides: overrides(r, shape, faces.len(), &pools),
+        overrides: overrides(r, shape, faces.len(), fonts),
         requests: (0..count)
             .map(|_| request(r, shape, families.len(), &pools))
             .collect(),

@@ -18,3 +18,4 @@ pub mod overrides;
 pub mod pairs;
 pub mod pools;
 pub mod random;
+pub mod readings;

@@ -13,6 +13,7 @@ use crate::{
 mod collections;
 mod damaged;
 mod named;
+mod readings;
 mod stages;
 
 /// How many random jobs the stored list has.
@@ -42,6 +43,7 @@ pub fn made() -> Vec<Case> {
     damaged::jobs(&mut list);
     stages::jobs(&mut list);
     named::jobs(&mut list);
+    readings::jobs(&mut list);
     list.0
 }
 

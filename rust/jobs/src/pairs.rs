@@ -8,8 +8,8 @@ use crate::{
     list::Case,
 };
 
-/// Request, offer number and bytes of output.
-pub type Call = (u32, u32, usize);
+/// Reading, request, offer number and bytes of output.
+pub type Call = (u32, u32, u32, usize);
 
 /// Cases in the order of the program, under the same names there.
 pub fn all() -> Vec<(Case, Vec<Call>)> {
@@ -33,18 +33,15 @@ fn add(out: &mut Cases, label: &str, bytes: Vec<u8>, expected: Expected, calls: 
 }
 
 fn zeros(out: &mut Cases) {
-    let one = [(0, 0, 40)];
-    let two = [(0, 0, 40), (0, 0, 39)];
+    let old = [(0, 0, 0, 40), (0, 0, 0, 39)];
+    let none = [(2, 0, 0, 40), (2, 0, 0, 39)];
     let refused = Expected::Refused;
-    add(out, "no bytes", vec![], refused(18, 0), &one);
-    add(
-        out,
-        "eight zero bytes",
-        vec![0; 8],
-        Expected::Accepted,
-        &one,
-    );
-    add(out, "nine zero bytes", vec![0; 9], refused(27, 8), &two);
+    let first = [old[0], none[0]];
+    add(out, "no bytes", vec![], refused(18, 0), &first);
+    let accepted = Expected::Accepted;
+    add(out, "eight zero bytes", vec![0; 8], accepted, &old[..1]);
+    let all = [old, none].concat();
+    add(out, "nine zero bytes", vec![0; 9], refused(27, 8), &all);
 }
 
 /// OS/2, a cmap of one record after a gap, and fvar.
@@ -116,29 +113,46 @@ fn small(axes: u8, places: u16, ratio: f32) -> Job {
 }
 
 /// The first two offers of the first request.
-const TWO: [Call; 2] = [(0, 0, 40), (0, 1, 40)];
+const TWO: [Call; 2] = [(0, 0, 0, 40), (0, 0, 1, 40)];
 
-/// Outputs of four lengths, then each request and what lies past it.
-const SMALL_CALLS: [Call; 19] = [
-    (0, 0, 0),
-    (0, 0, 39),
-    (0, 0, 40),
-    (0, 0, 41),
-    (0, 1, 40),
-    (0, 2, 40),
-    (0, 3, 40),
-    (0, u32::MAX, 40),
-    (1, 0, 40),
-    (1, 1, 40),
-    (1, 5, 40),
-    (1, 6, 40),
-    (2, 0, 40),
-    (3, 0, 40),
-    (3, 1, 40),
-    (3, 2, 40),
-    (4, 0, 40),
-    (4, 0, 39),
-    (u32::MAX, 0, 40),
+/// Outputs of four lengths, then each request and what lies past it; some of
+/// these under reading 1, and under numbers that are no reading.
+const SMALL_CALLS: [Call; 35] = [
+    (0, 0, 0, 0),
+    (0, 0, 0, 39),
+    (0, 0, 0, 40),
+    (0, 0, 0, 41),
+    (0, 0, 1, 40),
+    (0, 0, 2, 40),
+    (0, 0, 3, 40),
+    (0, 0, u32::MAX, 40),
+    (0, 1, 0, 40),
+    (0, 1, 1, 40),
+    (0, 1, 5, 40),
+    (0, 1, 6, 40),
+    (0, 2, 0, 40),
+    (0, 3, 0, 40),
+    (0, 3, 1, 40),
+    (0, 3, 2, 40),
+    (0, 4, 0, 40),
+    (0, 4, 0, 39),
+    (0, u32::MAX, 0, 40),
+    (1, 0, 0, 40),
+    (1, 0, 1, 40),
+    (1, 0, 2, 40),
+    (1, 0, 3, 40),
+    (1, 1, 0, 40),
+    (1, 1, 1, 40),
+    (1, 1, 5, 40),
+    (1, 3, 0, 40),
+    (1, 3, 1, 40),
+    (1, 4, 0, 40),
+    (2, 0, 0, 40),
+    (2, 0, 0, 39),
+    (2, 4, 0, 40),
+    (256, 0, 0, 40),
+    (65_537, 0, 0, 40),
+    (u32::MAX, 0, 0, 40),
 ];
 
 fn small_jobs(out: &mut Cases) {
@@ -152,7 +166,7 @@ fn small_jobs(out: &mut Cases) {
     add(out, "17 axes", bytes(17, 3, 1.0), refused(23, 3), &TWO);
     // Three faces of three fields, and the counts of faces, overrides and families.
     let places = job.fields[12].at;
-    let more = [TWO[0], TWO[1], (1, 85, 40), (1, 86, 40)];
+    let more = [TWO[0], TWO[1], (0, 1, 85, 40), (0, 1, 86, 40)];
     add(out, "64 places", bytes(0, 64, 1.0), accepted, &more);
     add(
         out,
@@ -226,20 +240,24 @@ fn large() -> Job {
     }
 }
 
-/// Ends of some lists, and what lies past them.
-const LARGE_CALLS: [Call; 12] = [
-    (0, 0, 40),
-    (1, 0, 40),
-    (1, 1, 40),
-    (3, 0, 40),
-    (3, 631, 40),
-    (3, 632, 40),
-    (127, 5, 40),
-    (254, 7, 40),
-    (254, 8, 40),
-    (255, 631, 40),
-    (255, 632, 40),
-    (256, 0, 40),
+/// Ends of some lists, and what lies past them; some of these under reading 1.
+const LARGE_CALLS: [Call; 16] = [
+    (0, 0, 0, 40),
+    (0, 1, 0, 40),
+    (0, 1, 1, 40),
+    (0, 3, 0, 40),
+    (0, 3, 631, 40),
+    (0, 3, 632, 40),
+    (0, 127, 5, 40),
+    (0, 254, 7, 40),
+    (0, 254, 8, 40),
+    (0, 255, 631, 40),
+    (0, 255, 632, 40),
+    (0, 256, 0, 40),
+    (1, 3, 631, 40),
+    (1, 255, 631, 40),
+    (1, 256, 0, 40),
+    (2, 0, 0, 40),
 ];
 
 fn larger_jobs(out: &mut Cases) {

@@ -2,7 +2,10 @@
 
 use std::fmt;
 
-use crate::single::Single;
+use crate::{
+    reading::{self, slant},
+    single::Single,
+};
 
 pub type Tag = [u8; 4];
 
@@ -121,12 +124,15 @@ pub fn count(file: &[u8]) -> u32 {
     }
 }
 
-/// Reads the font of the number, or gives the number of its refusal: 21, 30,
-/// 31, 22 or 23.
-pub fn read(file: &[u8], number: u16) -> Result<Font, u32> {
+/// Reads the font of the number under a reading, or gives the number of its
+/// refusal: 25, 21, 30, 31, 22 or 23.
+pub fn read(file: &[u8], reading: u32, number: u16) -> Result<Font, u32> {
+    if !reading::is_known(reading) {
+        return Err(25);
+    }
     let start = directory_start(file, number)?;
     let directory = directory(file, start).ok_or(21u32)?;
-    let attributes = attributes(file, &directory).ok_or(31u32)?;
+    let attributes = attributes(file, reading, &directory).ok_or(31u32)?;
     let charmap = charmap(file, &directory).ok_or(22u32)?;
     let axes = axes(file, &directory);
     if axes.len() > AXES {
@@ -248,12 +254,12 @@ fn ratio(width_class: u16) -> f32 {
 
 /// The attributes, or none where a table that they need is damaged: OS/2, or
 /// `head` where there is no OS/2, or `post` where OS/2 says oblique.
-fn attributes(file: &[u8], directory: &[Record]) -> Option<Attributes> {
+fn attributes(file: &[u8], reading: u32, directory: &[Record]) -> Option<Attributes> {
     match table(file, directory, b"OS/2", 78) {
         Table::Damaged => None,
         Table::Found(_, os2) => Some(Attributes {
             ratio: Single::new(ratio(u16_at(os2, 6))),
-            style: style(u16_at(os2, 62), file, directory)?,
+            style: style(u16_at(os2, 62), file, reading, directory)?,
             weight: Single::new(f32::from(u16_at(os2, 4))),
         }),
         Table::Absent => mac_attributes(file, directory),
@@ -261,18 +267,20 @@ fn attributes(file: &[u8], directory: &[Record]) -> Option<Attributes> {
 }
 
 /// The style of an fsSelection, or none where it needs a `post` that is damaged.
-fn style(selection: u16, file: &[u8], directory: &[Record]) -> Option<Style> {
+fn style(selection: u16, file: &[u8], reading: u32, directory: &[Record]) -> Option<Style> {
     if selection & (1 << 0) != 0 {
         return Some(Style::Italic);
     }
     if selection & (1 << 9) == 0 {
         return Some(Style::Normal);
     }
-    match table(file, directory, b"post", 32) {
-        Table::Damaged => None,
-        Table::Found(_, post) => Some(Style::Oblique(Angle::Degrees(fixed_at(post, 4)))),
-        Table::Absent => Some(Style::Oblique(Angle::Unstated)),
-    }
+    let angle = match table(file, directory, b"post", 32) {
+        Table::Damaged => return None,
+        // The number is made a single before the reading turns it.
+        Table::Found(_, post) => Angle::Degrees(slant(reading, fixed_at(post, 4))),
+        Table::Absent => Angle::Unstated,
+    };
+    Some(Style::Oblique(angle))
 }
 
 /// The attributes without OS/2, or none where `head` is damaged.

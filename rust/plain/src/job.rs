@@ -2,6 +2,7 @@
 
 use crate::{
     font::{self, Angle, Attributes, Font, Override, Style, Tag},
+    reading,
     single::Single,
 };
 
@@ -43,23 +44,29 @@ pub struct Job {
     pub requests: Vec<Request>,
 }
 
-/// The check call: number and position, 0 and 0 for an accepted job.
+/// The check call: number and position, 0 and 0 for an accepted job. No
+/// refusal of a job depends on the reading, and this call takes none.
 pub fn check(job: &[u8]) -> (u32, u32) {
-    match read(job) {
+    match read(job, 0) {
         Ok(_) => (0, 0),
         Err(refusal) => (refusal.number, refusal.position),
     }
 }
 
-/// Reads a job to its end, or gives the refusal that is met first.
-pub fn read(job: &[u8]) -> Result<Job, Refusal> {
+/// Reads a job to its end, its fonts under the reading, or gives the refusal
+/// that is met first: 17, then 25 for the reading, then those of the job.
+pub fn read(job: &[u8], reading: u32) -> Result<Job, Refusal> {
     if job.len() > BYTES {
-        return Err(Refusal {
-            number: 17,
-            position: 0,
-        });
+        return refuse(17, 0);
     }
-    let mut reader = Reader { job, at: 0 };
+    if !reading::is_known(reading) {
+        return refuse(25, 0);
+    }
+    let mut reader = Reader {
+        job,
+        reading,
+        at: 0,
+    };
     let mut faces = Vec::new();
     for _ in 0..reader.count(FACES)? {
         faces.push(reader.face()?);
@@ -131,6 +138,7 @@ impl Field {
 
 struct Reader<'a> {
     job: &'a [u8],
+    reading: u32,
     /// Position of the next field.
     at: usize,
 }
@@ -179,7 +187,7 @@ impl<'a> Reader<'a> {
         } else {
             Field { bits: 0, ..length }
         };
-        match font::read(file, number.bits as u16) {
+        match font::read(file, self.reading, number.bits as u16) {
             Ok(font) => Ok(Face { held, font }),
             Err(30) => refuse(30, number.position),
             Err(refusal) => refuse(refusal, length.position),

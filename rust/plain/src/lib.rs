@@ -11,6 +11,7 @@ pub mod job;
 pub mod lines;
 pub mod matching;
 pub mod offers;
+pub mod reading;
 pub mod single;
 pub mod synthesis;
 

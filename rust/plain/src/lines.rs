@@ -7,6 +7,7 @@ use crate::{
     font::{Attributes, Axis, Font, Tag},
     matching,
     offers::Offer,
+    reading::READINGS,
     single::Single,
     synthesis::{Synthesis, synthesis},
 };
@@ -85,36 +86,41 @@ pub struct Answer {
     pub choice: Option<usize>,
     pub equal: Vec<usize>,
     pub default: usize,
-    /// Of the chosen face, or of the default where none is chosen.
-    pub synthesis: Synthesis,
+    /// Of the chosen face, or of the default where none is chosen, under each
+    /// reading.
+    pub syntheses: [Synthesis; 2],
 }
 
 impl Answer {
-    /// By this reading; there is a face.
+    /// By the plain reading; there is a face.
     pub fn of(faces: &[Font], request: &Attributes, on: bool) -> Self {
         let faces: Vec<&Font> = faces.iter().collect();
         let choice = matching::choice(&faces, request, on);
         let default = matching::default(&faces);
+        let shown = faces[choice.unwrap_or(default)];
         Self {
             choice,
             equal: matching::equal_list(&faces, request, on),
             default,
-            synthesis: synthesis(faces[choice.unwrap_or(default)], request),
+            syntheses: READINGS.map(|reading| synthesis(shown, reading, request)),
         }
     }
 
-    /// `CHOICE LIST DEFAULT BOLD SKEW TAG=BITS ..`.
+    /// `CHOICE LIST DEFAULT BOLD SKEW TAG=BITS .. | BOLD SKEW TAG=BITS ..`: the
+    /// synthesis under reading 0, and under reading 1.
     pub fn line(&self) -> String {
         let or_none = |text: String| if text.is_empty() { "-".into() } else { text };
         let choice = self.choice.map(|place| place.to_string());
         let equal: Vec<String> = self.equal.iter().map(usize::to_string).collect();
+        let [old, new] = &self.syntheses;
+        let words = |of: &Synthesis| marks(of) + &settings(&of.settings);
         format!(
-            "{} {} {} {}{}",
+            "{} {} {} {} | {}",
             or_none(choice.unwrap_or_default()),
             or_none(equal.join(",")),
             self.default,
-            marks(&self.synthesis),
-            settings(&self.synthesis.settings)
+            words(old),
+            words(new),
         )
     }
 }

@@ -39,32 +39,29 @@ impl Offer {
     }
 }
 
-/// The offers of a request, cut after its most.
-pub fn offers(job: &Job, request: &Request) -> Vec<Offer> {
+/// The offers of a request, cut after its most. The job has been read under
+/// the same reading.
+pub fn offers(job: &Job, reading: u32, request: &Request) -> Vec<Offer> {
     let mut out = Vec::new();
     for family in request.families.iter().chain(&request.fallbacks) {
-        if let Some(places) = job.families.get(usize::from(*family)) {
-            offers_of_family(job, request, *family, places, &mut out);
-        }
+        out.extend(offers_of_family(job, reading, request, *family));
     }
     out.truncate(usize::from(request.most));
     out
 }
 
-fn offers_of_family(
-    job: &Job,
-    request: &Request,
-    family: u16,
-    places: &[u16],
-    out: &mut Vec<Offer>,
-) {
+/// None of a family that the job does not have.
+fn offers_of_family(job: &Job, reading: u32, request: &Request, family: u16) -> Vec<Offer> {
+    let Some(places) = job.families.get(usize::from(family)) else {
+        return Vec::new();
+    };
     let held = |place: usize| job.faces[usize::from(places[place])].held;
     let fonts: Vec<&Font> = places
         .iter()
         .map(|face| &job.faces[usize::from(*face)].font)
         .collect();
     if fonts.is_empty() {
-        return;
+        return Vec::new();
     }
     let mut offered = matching::equal_list(&fonts, &request.attributes, true);
     offered.retain(|place| held(*place));
@@ -72,30 +69,29 @@ fn offers_of_family(
     if held(default) && !offered.contains(&default) {
         offered.push(default);
     }
-    for place in offered {
-        out.push(Offer {
-            family,
-            place: place as u16,
-            synthesis: synthesis::synthesis(fonts[place], &request.attributes),
-            charmap: fonts[place].charmap,
-        });
-    }
+    let offer = |place: usize| Offer {
+        family,
+        place: place as u16,
+        synthesis: synthesis::synthesis(fonts[place], reading, &request.attributes),
+        charmap: fonts[place].charmap,
+    };
+    offered.into_iter().map(offer).collect()
 }
 
 /// The offer call: 0 with the 40 bytes written, or 1 or a refusal's number
 /// with nothing written.
-pub fn offer(job: &[u8], request: u32, number: u32, out: &mut [u8]) -> u32 {
+pub fn offer(job: &[u8], reading: u32, request: u32, number: u32, out: &mut [u8]) -> u32 {
     if out.len() != OUTPUT {
         return 16;
     }
-    let job = match job::read(job) {
+    let job = match job::read(job, reading) {
         Ok(job) => job,
         Err(refusal) => return refusal.number,
     };
     let Some(request) = job.requests.get(request as usize) else {
         return 28;
     };
-    match offers(&job, request).get(number as usize) {
+    match offers(&job, reading, request).get(number as usize) {
         Some(offer) => {
             out.copy_from_slice(&offer.record());
             0
@@ -104,15 +100,15 @@ pub fn offer(job: &[u8], request: u32, number: u32, out: &mut [u8]) -> u32 {
     }
 }
 
-/// What section 7's program prints for a job, of whatever length.
-pub fn text(bytes: &[u8]) -> String {
-    let job = match job::read(bytes) {
+/// What section 7's program prints for a job, of whatever length, under a reading.
+pub fn text(bytes: &[u8], reading: u32) -> String {
+    let job = match job::read(bytes, reading) {
         Ok(job) => job,
         Err(refusal) => return format!("refused {} {}\n", refusal.number, refusal.position),
     };
     let mut text = format!("requests {}\n", job.requests.len());
     for (number, request) in job.requests.iter().enumerate() {
-        for offer in offers(&job, request) {
+        for offer in offers(&job, reading, request) {
             text.push_str(&lines::offer(number, &offer, false));
             text.push('\n');
         }

@@ -48,6 +48,15 @@ impl Single {
         Self::new(self.value() * 100.0)
     }
 
+    /// The opposite number; of either zero the positive one.
+    pub fn opposite(self) -> Self {
+        if self == Self::ZERO {
+            Self::ZERO
+        } else {
+            Self::new(-self.value())
+        }
+    }
+
     /// Truncated toward zero.
     pub fn truncated(self) -> i64 {
         self.value() as i64

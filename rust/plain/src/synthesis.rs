@@ -2,6 +2,7 @@
 
 use crate::{
     font::{Attributes, Font, Style, Tag},
+    reading::slant,
     single::Single,
 };
 
@@ -13,7 +14,8 @@ pub struct Synthesis {
     pub settings: Vec<(Tag, Single)>,
 }
 
-pub fn synthesis(font: &Font, request: &Attributes) -> Synthesis {
+/// Of a face for a request, under a reading that there is.
+pub fn synthesis(font: &Font, reading: u32, request: &Attributes) -> Synthesis {
     let own = &font.attributes;
     let mut out = Synthesis::default();
     if font.has(b"wdth") && own.ratio != request.ratio {
@@ -31,20 +33,21 @@ pub fn synthesis(font: &Font, request: &Attributes) -> Synthesis {
         }
     }
     if own.style == Style::Normal {
-        style(font, request.style, &mut out);
+        style(font, reading, request.style, &mut out);
     }
     out
 }
 
-/// The style, of a normal face.
-fn style(font: &Font, request: Style, out: &mut Synthesis) {
+/// The style, of a normal face. The reading changes the value of `slnt` alone.
+fn style(font: &Font, reading: u32, request: Style, out: &mut Synthesis) {
+    let slnt = |degrees: Single| (*b"slnt", slant(reading, degrees));
     match request {
         Style::Normal => {}
         Style::Italic => {
             if font.has(b"ital") {
                 out.settings.push((*b"ital", Single::new(1.0)));
             } else if font.has(b"slnt") {
-                out.settings.push((*b"slnt", Single::new(14.0)));
+                out.settings.push(slnt(Single::new(14.0)));
             } else {
                 out.skew = 14;
             }
@@ -52,7 +55,7 @@ fn style(font: &Font, request: Style, out: &mut Synthesis) {
         Style::Oblique(angle) => {
             let degrees = angle.degrees();
             if font.has(b"slnt") {
-                out.settings.push((*b"slnt", degrees));
+                out.settings.push(slnt(degrees));
             } else if degrees > Single::ZERO && font.has(b"ital") {
                 out.settings.push((*b"ital", Single::new(1.0)));
             } else {

@@ -15,6 +15,7 @@ use Style::{Italic, Normal};
 
 mod damaged;
 mod named;
+mod readings;
 
 const UNSTATED: Style = Style::Oblique(Angle::Unstated);
 
@@ -117,10 +118,10 @@ fn families_without_a_choice() {
 #[test]
 fn numbers_to_try() {
     let own = face(1.0, Normal, 400.0);
-    assert!(!synthesis(&own, &asked_weight(600.0)).embolden);
-    assert!(synthesis(&own, &asked_weight(601.0)).embolden);
+    assert!(!synthesis(&own, 0, &asked_weight(600.0)).embolden);
+    assert!(synthesis(&own, 0, &asked_weight(601.0)).embolden);
     for (angle, skew) in [(0.9, 0), (-14.9, -14), (200.0, 127), (-200.0, -128)] {
-        assert_eq!(synthesis(&own, &asked_style(oblique(angle))).skew, skew);
+        assert_eq!(synthesis(&own, 0, &asked_style(oblique(angle))).skew, skew);
     }
     assert_eq!(Single::from_fixed(16777217).value(), 256.0);
     assert_eq!(Single::from_fixed(16777219).value(), 16777220.0 / 65536.0);
@@ -154,7 +155,7 @@ fn settings_in_their_order() {
     for (tag, default) in [(b"slnt", 0.0), (b"wght", 300.0), (b"wdth", 100.0)] {
         own = with_axis(own, tag, default);
     }
-    let all = synthesis(&own, &attributes(0.875, oblique(-0.0), 400.0));
+    let all = synthesis(&own, 0, &attributes(0.875, oblique(-0.0), 400.0));
     let bits: Vec<([u8; 4], u32)> = all.settings.iter().map(|(t, v)| (*t, v.0)).collect();
     assert_eq!(
         bits,
@@ -165,12 +166,12 @@ fn settings_in_their_order() {
         ]
     );
     assert!(
-        synthesis(&own, &attributes(1.0, Normal, 300.0))
+        synthesis(&own, 0, &attributes(1.0, Normal, 300.0))
             .settings
             .is_empty()
     );
     let ital = with_axis(face(1.0, Normal, 400.0), b"ital", 0.0);
-    let left = synthesis(&ital, &attributes(1.0, oblique(-5.5), 400.0));
+    let left = synthesis(&ital, 0, &attributes(1.0, oblique(-5.5), 400.0));
     assert_eq!((left.skew, left.settings.len()), (-5, 0));
 }
 
@@ -264,15 +265,18 @@ const ONE: u32 = 0x3f80_0000;
 
 #[test]
 fn example_of_section_7() {
-    assert_eq!(text(&example(ONE, 0)), "requests 1\n0 0 1 - 0\n0 0 0 b 0\n");
+    assert_eq!(
+        text(&example(ONE, 0), 0),
+        "requests 1\n0 0 1 - 0\n0 0 0 b 0\n"
+    );
 }
 
 #[test]
 fn eight_zero_bytes_and_nine() {
     assert_eq!(check(&[0; 8]), (0, 0));
     assert_eq!(check(&[0; 9]), (27, 8));
-    assert_eq!(text(&[0; 8]), "requests 0\n");
-    assert_eq!(text(&[0; 9]), "refused 27 8\n");
+    assert_eq!(text(&[0; 8], 0), "requests 0\n");
+    assert_eq!(text(&[0; 9], 0), "refused 27 8\n");
     for (length, position) in [(0, 0), (1, 0), (2, 2), (3, 2), (4, 4), (7, 6)] {
         assert_eq!(check(&vec![0; length]), (18, position));
     }
@@ -283,24 +287,24 @@ fn output_of_39_and_40() {
     let job = example(ONE, 0);
     let mut out = [0xaa; 41];
     for length in [0, 39, 41] {
-        assert_eq!(offer(&job, 0, 0, &mut out[..length]), 16);
+        assert_eq!(offer(&job, 0, 0, 0, &mut out[..length]), 16);
     }
     assert_eq!(out, [0xaa; 41]);
-    assert_eq!(offer(&job, 0, 0, &mut out[..40]), 0);
+    assert_eq!(offer(&job, 0, 0, 0, &mut out[..40]), 0);
     let mut expected = [0; 40];
     expected[3] = 1;
     expected[35] = 60 + 12;
     assert_eq!(out[..40], expected);
-    assert_eq!(offer(&job, 0, 1, &mut out[..40]), 0);
+    assert_eq!(offer(&job, 0, 0, 1, &mut out[..40]), 0);
     expected[3] = 0;
     expected[4] = 1;
     assert_eq!(out[..40], expected);
-    assert_eq!(offer(&job, 0, 2, &mut out[..40]), 1);
-    assert_eq!(offer(&job, 0, u32::MAX, &mut out[..40]), 1);
-    assert_eq!(offer(&job, 1, 0, &mut out[..40]), 28);
-    assert_eq!(offer(&job, u32::MAX, 0, &mut out[..40]), 28);
-    assert_eq!(offer(&job[..9], 1, 0, &mut out[..40]), 18);
-    assert_eq!(offer(&job[..9], 1, 0, &mut out[..39]), 16);
+    assert_eq!(offer(&job, 0, 0, 2, &mut out[..40]), 1);
+    assert_eq!(offer(&job, 0, 0, u32::MAX, &mut out[..40]), 1);
+    assert_eq!(offer(&job, 0, 1, 0, &mut out[..40]), 28);
+    assert_eq!(offer(&job, 0, u32::MAX, 0, &mut out[..40]), 28);
+    assert_eq!(offer(&job[..9], 0, 1, 0, &mut out[..40]), 18);
+    assert_eq!(offer(&job[..9], 0, 1, 0, &mut out[..39]), 16);
     assert_eq!(out[..40], expected);
 }
 
@@ -326,7 +330,7 @@ fn places_64_and_65() {
         };
         assert_eq!(check(&job), expected);
         if places == 64 {
-            assert_eq!(text(&job).lines().count(), 1 + 64);
+            assert_eq!(text(&job, 0).lines().count(), 1 + 64);
         }
     }
 }
@@ -350,8 +354,8 @@ fn job_over_the_limit() {
     job.push(0);
     assert_eq!(check(&job), (17, 0));
     let mut out = [0; 40];
-    assert_eq!(offer(&job, 0, 0, &mut out), 17);
-    assert_eq!(offer(&job, 0, 0, &mut out[..39]), 16);
+    assert_eq!(offer(&job, 0, 0, 0, &mut out), 17);
+    assert_eq!(offer(&job, 0, 0, 0, &mut out[..39]), 16);
 }
 
 /// A job of one face and an override: face, mask, ratio, kind, angle, weight, pairs.
@@ -490,12 +494,12 @@ fn fonts_of_a_collection() {
         let file = pair(version);
         assert_eq!(font::count(&file), 2);
         for (number, weight) in [(0, 400.0), (1, 700.0)] {
-            let read = font::read(&file, number).unwrap();
+            let read = font::read(&file, 0, number).unwrap();
             assert_eq!(read.attributes, asked_weight(weight));
             assert_eq!(read.charmap.offset, CMAP + 12);
         }
-        assert_eq!(font::read(&file, 2), Err(30));
-        assert_eq!(font::read(&file, u16::MAX), Err(30));
+        assert_eq!(font::read(&file, 0, 2), Err(30));
+        assert_eq!(font::read(&file, 0, u16::MAX), Err(30));
     }
 }
 
@@ -504,8 +508,8 @@ fn fonts_of_a_collection() {
 fn font_numbers() {
     let lone = font_file(400, 0);
     assert_eq!(font::count(&lone), 1);
-    assert!(font::read(&lone, 0).is_ok());
-    assert_eq!(font::read(&lone, 1), Err(30));
+    assert!(font::read(&lone, 0, 0).is_ok());
+    assert_eq!(font::read(&lone, 0, 1), Err(30));
     for (file, at_0, at_1) in [
         (&b"ttcf\0\x01\0\0\0\0\0"[..], 21, 21),
         (b"ttcf\0\x01\0\0\0\0\0\0", 30, 30),
@@ -517,7 +521,7 @@ fn font_numbers() {
         (&lone[..11], 21, 21),
         (&lone[..12], 21, 30),
     ] {
-        let answers = [0, 1].map(|number| font::read(file, number));
+        let answers = [0, 1].map(|number| font::read(file, 0, number));
         assert_eq!(answers, [Err(at_0), Err(at_1)], "{file:?}");
     }
     assert_eq!(font::count(b"ttcf\0\x01\0\0\0\0\0"), 0);
@@ -542,18 +546,18 @@ fn offsets_of_a_collection() {
     ] {
         let mut file = file.clone();
         file[16..20].copy_from_slice(&offset.to_be_bytes());
-        assert_eq!(font::read(&file, 1).err(), answer, "{offset}");
-        assert!(font::read(&file, 0).is_ok());
+        assert_eq!(font::read(&file, 0, 1).err(), answer, "{offset}");
+        assert!(font::read(&file, 0, 0).is_ok());
     }
     // A directory that ends with the file, and one that does not.
-    assert_eq!(font::read(&file[..file.len() - 1], 1), Err(21));
-    assert!(font::read(&file[..file.len() - 1], 0).is_ok());
+    assert_eq!(font::read(&file[..file.len() - 1], 0, 1), Err(21));
+    assert!(font::read(&file[..file.len() - 1], 0, 0).is_ok());
     // As many offsets as there are bytes for, and one more.
     let most = (file.len() as u32 - 12) / 4;
     for (count, accepted) in [(most, true), (most + 1, false)] {
         let mut file = file.clone();
         file[8..12].copy_from_slice(&count.to_be_bytes());
-        assert_eq!(font::read(&file, 0).is_ok(), accepted, "{count}");
+        assert_eq!(font::read(&file, 0, 0).is_ok(), accepted, "{count}");
     }
 }
 
@@ -625,7 +629,7 @@ fn offers_of_a_collection() {
         job.extend([0, 0, 0, 1, 0, 1, 0, 0, 0, 1]);
         job.extend(request(8, ONE, 700.0));
         let mut out = [0; 40];
-        assert_eq!(offer(&job, 0, 0, &mut out), 0);
+        assert_eq!(offer(&job, 0, 0, 0, &mut out), 0);
         out
     };
     let lone = record(&font_file(700, 0), &[]);
@@ -683,7 +687,7 @@ fn job_of_turns() -> (Vec<u8>, usize) {
 fn turns_of_offers() {
     let (mut job, at) = job_of_turns();
     let lines =
-        |job: &[u8]| -> Vec<String> { text(job).lines().skip(1).map(String::from).collect() };
+        |job: &[u8]| -> Vec<String> { text(job, 0).lines().skip(1).map(String::from).collect() };
     assert_eq!(
         lines(&job),
         [

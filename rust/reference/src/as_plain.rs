@@ -7,7 +7,7 @@ use plain::{
     synthesis,
 };
 
-use crate::{FontInfo, FontStyle, FontWeight, FontWidth, Synthesis, describe};
+use crate::{FontInfo, FontStyle, FontWeight, FontWidth, Synthesis, describe, turned};
 
 fn style(style: FontStyle) -> Style {
     match style {
@@ -53,9 +53,11 @@ pub fn font(info: &FontInfo) -> Font {
     }
 }
 
-pub fn synthesis(of: &Synthesis) -> synthesis::Synthesis {
-    let setting = |(tag, value): &(read_fonts::types::Tag, f32)| -> (Tag, Single) {
-        (tag.to_be_bytes(), Single::new(*value))
+/// A synthesis under a reading.
+pub fn synthesis(of: &Synthesis, reading: u32) -> synthesis::Synthesis {
+    let setting = |setting: &(read_fonts::types::Tag, f32)| -> (Tag, Single) {
+        let value = turned::value(*setting, reading);
+        (setting.0.to_be_bytes(), Single::new(value))
     };
     synthesis::Synthesis {
         embolden: of.embolden(),

@@ -8,6 +8,7 @@ use std::{path::Path, sync::Arc};
 use plain::{
     job::{BYTES, FACES, FAMILIES, OVERRIDES, PLACES, REQUESTS},
     offers::OUTPUT,
+    reading,
 };
 use read_fonts::{
     FontRef, TableProvider as _, TopLevelTable as _,
@@ -24,6 +25,7 @@ use crate::{
     Attributes, FontInfo, FontInfoOverride, FontStyle, FontWeight, FontWidth, Synthesis, describe,
     matching::{match_font, match_fonts},
     source::{SourceId, SourceInfo, SourceKind},
+    turned,
 };
 
 /// The table's number and the field's position.
@@ -35,16 +37,16 @@ pub struct Refusal {
 
 /// The check call: none for an accepted job.
 pub fn check(job: &[u8]) -> Result<(), Refusal> {
-    read(job, 0).map(|_| ())
+    read(job, 0, 0).map(|_| ())
 }
 
 /// The offer call: 0 with the 40 bytes written, or 1 or a refusal's number
 /// with nothing written.
-pub fn offer(job: &[u8], request: u32, number: u32, out: &mut [u8]) -> u32 {
+pub fn offer(job: &[u8], reading: u32, request: u32, number: u32, out: &mut [u8]) -> u32 {
     let Ok(out) = <&mut [u8; OUTPUT]>::try_from(out) else {
         return 16;
     };
-    let job = match read(job, request as usize) {
+    let job = match read(job, reading, request as usize) {
         Ok(job) => job,
         Err(refusal) => return refusal.number,
     };
@@ -78,8 +80,10 @@ struct Request<'a> {
     fallbacks: Numbers<'a>,
 }
 
-/// An accepted job, its overrides applied, and the request that is asked for.
+/// An accepted job under a reading, its overrides applied, and the request that
+/// is asked for.
 struct Job<'a> {
+    reading: u32,
     faces: Vec<Face<'a>>,
     families: Vec<Numbers<'a>>,
     request: Option<Request<'a>>,
@@ -92,11 +96,18 @@ impl<'a> Job<'a> {
 }
 
 /// Reads the whole job; of its requests only the asked one is kept.
-fn read(job: &[u8], asked: usize) -> Result<Job<'_>, Refusal> {
+fn read(job: &[u8], reading: u32, asked: usize) -> Result<Job<'_>, Refusal> {
     if job.len() > BYTES {
         return refuse(17, 0);
     }
-    let mut reader = Reader { job, at: 0 };
+    if !reading::is_known(reading) {
+        return refuse(25, 0);
+    }
+    let mut reader = Reader {
+        job,
+        reading,
+        at: 0,
+    };
     // The original wants a source for each font; this one is never loaded.
     let nowhere: Arc<Path> = Arc::from(Path::new(""));
     let source = SourceInfo::new(SourceId::new(), SourceKind::Path(nowhere));
@@ -125,6 +136,7 @@ fn read(job: &[u8], asked: usize) -> Result<Job<'_>, Refusal> {
         return refuse(27, reader.at);
     }
     Ok(Job {
+        reading,
         faces,
         families,
         request,
@@ -137,6 +149,7 @@ fn refuse<T>(number: u32, position: usize) -> Result<T, Refusal> {
 
 struct Reader<'a> {
     job: &'a [u8],
+    reading: u32,
     /// Position of the next field.
     at: usize,
 }
@@ -257,12 +270,15 @@ impl<'a> Reader<'a> {
             describe::info(&font, number, source.clone())
         });
         match info {
-            Ok(info) => Ok(Face {
-                held,
-                file,
-                number,
-                info,
-            }),
+            Ok(mut info) => {
+                turned::face(&mut info, self.reading);
+                Ok(Face {
+                    held,
+                    file,
+                    number,
+                    info,
+                })
+            }
             Err(30) => refuse(30, number_at),
             Err(refusal) => refuse(refusal, at),
         }
@@ -376,7 +392,9 @@ fn find(job: &Job<'_>, request: &Request<'_>, number: usize) -> Option<[u8; OUTP
             } = request.attributes;
             let synthesis = walk.fonts[place].synthesis(width, style, weight);
             let charmap = charmap(job.face(places, place)).expect("the font has been read");
-            return Some(record(family, place, &synthesis, charmap));
+            let mut out = record(family, place, charmap);
+            put_synthesis(&mut out, &synthesis, job.reading);
+            return Some(out);
         }
     }
     None
@@ -437,23 +455,28 @@ fn default_place(fonts: &[FontInfo]) -> usize {
     match_font(fonts, width, style, weight, false).unwrap_or(0)
 }
 
-fn record(family: u16, place: usize, synthesis: &Synthesis, charmap: Charmap) -> [u8; OUTPUT] {
+/// An offer without its synthesis.
+fn record(family: u16, place: usize, charmap: Charmap) -> [u8; OUTPUT] {
     let mut out = [0; OUTPUT];
     out[0..2].copy_from_slice(&family.to_be_bytes());
     out[2..4].copy_from_slice(&(place as u16).to_be_bytes());
-    out[4] = u8::from(synthesis.embolden());
-    out[5] = synthesis.skew().unwrap_or(0.0) as i8 as u8;
-    let settings = synthesis.variation_settings();
-    out[6] = settings.len() as u8;
-    for (slot, (tag, value)) in out[8..32].as_chunks_mut::<8>().0.iter_mut().zip(settings) {
-        slot[..4].copy_from_slice(&tag.to_be_bytes());
-        slot[4..].copy_from_slice(&value.to_be_bytes());
-    }
     let (offset, symbol, mac_roman) = charmap;
     out[32..36].copy_from_slice(&offset.to_be_bytes());
     out[36] = u8::from(symbol);
     out[37] = u8::from(mac_roman);
     out
+}
+
+fn put_synthesis(out: &mut [u8; OUTPUT], synthesis: &Synthesis, reading: u32) {
+    out[4] = u8::from(synthesis.embolden());
+    out[5] = synthesis.skew().unwrap_or(0.0) as i8 as u8;
+    let settings = synthesis.variation_settings();
+    out[6] = settings.len() as u8;
+    let slots = out[8..32].as_chunks_mut::<8>().0;
+    for (slot, setting) in slots.iter_mut().zip(settings) {
+        slot[..4].copy_from_slice(&setting.0.to_be_bytes());
+        slot[4..].copy_from_slice(&turned::value(*setting, reading).to_be_bytes());
+    }
 }
 
 /// Offset and flags of the best subtable.
@@ -472,38 +495,56 @@ fn charmap(face: &Face<'_>) -> Option<Charmap> {
 #[cfg(test)]
 mod tests {
     use super::*;
-    use jobs::list;
+    use jobs::{list, readings::UNKNOWN};
+    use plain::reading::READINGS;
 
-    /// Both calls beside those of the plain reading, every request, up to one
+    /// The offer call beside that of the plain reading, every request, up to one
     /// past its list.
+    fn offers_agree(bytes: &[u8], reading: u32, label: &str) {
+        let job = match plain::job::read(bytes, reading) {
+            Ok(job) => job,
+            Err(refusal) => {
+                let answer = offer(bytes, reading, 0, 0, &mut [0; OUTPUT]);
+                assert_eq!(answer, refusal.number, "{label}");
+                return;
+            }
+        };
+        for (request, asked) in job.requests.iter().enumerate() {
+            let list = plain::offers(&job, reading, asked);
+            for number in 0..=list.len() {
+                let mut out = [0x5a; OUTPUT];
+                let answer = offer(bytes, reading, request as u32, number as u32, &mut out);
+                let expected = match list.get(number) {
+                    Some(offer) => (0, offer.record()),
+                    None => (1, [0x5a; OUTPUT]),
+                };
+                assert_eq!((answer, out), expected, "{label}");
+            }
+        }
+        let past = job.requests.len() as u32;
+        assert_eq!(offer(bytes, reading, past, 0, &mut [0; OUTPUT]), 28);
+        assert_eq!(offer(bytes, reading, past, 0, &mut [0; OUTPUT - 1]), 16);
+    }
+
+    /// Both calls beside those of the plain reading, under both readings and
+    /// under none.
     #[test]
     fn as_the_plain_reading() {
         let cases = list::made().into_iter().chain(list::random(21).take(3000));
-        for case in cases {
+        for (i, case) in cases.enumerate() {
             let bytes = &case.bytes[..];
             let checked = check(bytes)
                 .err()
                 .map_or((0, 0), |refusal| (refusal.number, refusal.position as u32));
             assert_eq!(checked, plain::check(bytes), "{}", case.label);
-            let Ok(job) = plain::job::read(bytes) else {
-                assert_eq!(offer(bytes, 0, 0, &mut [0; OUTPUT]), checked.0);
-                continue;
-            };
-            for (request, asked) in job.requests.iter().enumerate() {
-                let list = plain::offers(&job, asked);
-                for number in 0..=list.len() {
-                    let mut out = [0x5a; OUTPUT];
-                    let answer = offer(bytes, request as u32, number as u32, &mut out);
-                    let expected = match list.get(number) {
-                        Some(offer) => (0, offer.record()),
-                        None => (1, [0x5a; OUTPUT]),
-                    };
-                    assert_eq!((answer, out), expected, "{}", case.label);
-                }
+            for reading in READINGS {
+                offers_agree(bytes, reading, &case.label);
             }
-            let past = job.requests.len() as u32;
-            assert_eq!(offer(bytes, past, 0, &mut [0; OUTPUT]), 28);
-            assert_eq!(offer(bytes, past, 0, &mut [0; OUTPUT - 1]), 16);
+            let none = UNKNOWN[i % UNKNOWN.len()];
+            assert_eq!(offer(bytes, none, 0, 0, &mut [0; OUTPUT]), 25);
+            assert_eq!(offer(bytes, none, 0, 0, &mut [0; OUTPUT - 1]), 16);
         }
+        let long = vec![0; BYTES + 1];
+        assert_eq!(offer(&long, 2, 0, 0, &mut [0; OUTPUT]), 17);
     }
 }

@@ -11,6 +11,7 @@ use read_fonts::{FontRef, ReadError};
 use crate::{
     Blob, FontInfo, as_plain,
     source::{SourceId, SourceInfo, SourceKind},
+    turned,
 };
 
 /// Reads the font of the number with the original, or gives the number for
@@ -45,9 +46,14 @@ pub fn info(font: &FontRef<'_>, number: u16, source: SourceInfo) -> Result<FontI
     Ok(info)
 }
 
-/// `refused N`, or `read ..` with the bits of every number; no line end.
-pub fn line(bytes: &[u8], number: u16) -> String {
-    lines::font(&read(bytes, number).map(|info| as_plain::font(&info)))
+/// `refused N`, or `read ..` with the bits of every number, under reading 0 or
+/// 1; no line end.
+pub fn line(bytes: &[u8], reading: u32, number: u16) -> String {
+    let font = read(bytes, number).map(|mut info| {
+        turned::face(&mut info, reading);
+        as_plain::font(&info)
+    });
+    lines::font(&font)
 }
 
 /// File offset, symbol and Mac Roman. The original's fields are private and

@@ -9,6 +9,7 @@ use jobs::{
 use plain::{
     font::Font,
     lines::{self, Answer},
+    reading::READINGS,
 };
 use read_fonts::types::Tag;
 
@@ -73,21 +74,33 @@ pub fn style(style: Style) -> FontStyle {
     }
 }
 
-/// The bytes of a case and what the original answers to it, a line without its
-/// end; the faces are as the original holds them.
-pub fn answer(case: &Case) -> (Vec<u8>, String) {
+/// The request and the faces of a case as the original holds them.
+fn held(case: &Case) -> (plain::font::Attributes, Vec<Font>) {
     let Attributes {
         width,
         style,
         weight,
     } = case.request;
     let request = as_plain::attributes(width, style, weight);
-    let faces: Vec<Font> = case.faces.iter().map(as_plain::face).collect();
+    (request, case.faces.iter().map(as_plain::face).collect())
+}
+
+/// The bytes of a case and what the original answers to it, a line without its
+/// end.
+pub fn answer(case: &Case) -> (Vec<u8>, String) {
+    let (request, faces) = held(case);
     let bytes = lines::family_bytes(case.synthesis, &request, &faces);
     (bytes, line(case))
 }
 
-/// What the original answers: choice, equal list, default and synthesis; no line end.
+/// The same line by the plain reading.
+pub fn plain_line(case: &Case) -> String {
+    let (request, faces) = held(case);
+    Answer::of(&faces, &request, case.synthesis).line()
+}
+
+/// What the original answers: choice, equal list, default, and synthesis under
+/// each reading; no line end.
 pub fn line(case: &Case) -> String {
     let Attributes {
         width,
@@ -99,21 +112,28 @@ pub fn line(case: &Case) -> String {
     let choice = family.match_index(width, style, weight, case.synthesis);
     let default = family.default_font_index();
     let shown = &family.fonts()[choice.unwrap_or(default)];
+    let synthesis = shown.synthesis(width, style, weight);
     let answer = Answer {
         choice,
         equal: match_fonts(family.fonts(), width, style, weight, case.synthesis).collect(),
         default,
-        synthesis: as_plain::synthesis(&shown.synthesis(width, style, weight)),
+        syntheses: READINGS.map(|reading| as_plain::synthesis(&synthesis, reading)),
     };
     answer.line()
 }
 
-/// Writes `stdin` and `stdout` into the folder.
+/// Writes `stdin` and `stdout` into the folder, once the plain reading has the
+/// same lines.
 pub fn write(folder: &Path, cases: &[Case]) -> io::Result<()> {
     let mut stdin = Vec::new();
     let mut stdout = String::new();
     for case in cases {
         let (bytes, line) = answer(case);
+        let plain = plain_line(case);
+        if line != plain {
+            let difference = format!("difference in a family: {line}, plain {plain}");
+            return Err(io::Error::other(difference));
+        }
         stdin.extend(bytes);
         stdout.push_str(&line);
         stdout.push('\n');
@@ -147,8 +167,8 @@ mod tests {
         ];
         assert_eq!(&choices[..on.len()], &on);
         assert_eq!(choices[on.len() + 10], "0");
-        assert_eq!(lines[12], "0 0 0 - 0");
-        assert_eq!(lines[13], "0 0 0 b 0");
+        assert_eq!(lines[12], "0 0 0 - 0 | - 0");
+        assert_eq!(lines[13], "0 0 0 b 0 | b 0");
         let skews: Vec<&str> = lines[14..18]
             .iter()
             .map(|line| line.split(' ').nth(4).unwrap())

@@ -29,6 +29,7 @@ pub mod lists;
 pub mod offers;
 pub mod overrides;
 pub mod pairs;
+pub mod turned;
 
 #[cfg(test)]
 mod beside;

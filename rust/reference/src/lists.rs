@@ -4,7 +4,7 @@ use std::{fs, io, path::Path};
 
 use jobs::{
     counts::Asked,
-    font_list::{self, List},
+    font_list::{Entry, List},
 };
 use plain::lines;
 
@@ -23,19 +23,28 @@ pub fn put(stdin: &mut Vec<u8>, bytes: &[u8]) {
     stdin.extend(bytes);
 }
 
-/// The line of a font: the original's, but for one that is refused with 31,
-/// of which the plain reading's is all there is.
-fn line(file: &[u8], number: u16, asked: &mut Asked) -> String {
-    match plain::font::read(file, number) {
-        damaged @ Err(31) => {
-            asked.left_out += 1;
-            lines::font(&damaged)
-        }
+/// The line of a font: the original's, but for one that is refused with 31 or
+/// for its reading, of which the plain reading's is all there is. Where the two
+/// have other lines, there is none.
+fn line(font: &Entry, asked: &mut Asked) -> Option<String> {
+    let Entry {
+        file,
+        reading,
+        number,
+    } = font;
+    let read = plain::font::read(file, *reading, *number);
+    let plain = lines::font(&read);
+    match read {
+        Err(25) => return Some(plain),
+        Err(31) => asked.left_out += 1,
         _ => {
             asked.fonts += 1;
-            describe::line(file, number)
+            if describe::line(file, *reading, *number) != plain {
+                return None;
+            }
         }
     }
+    Some(plain)
 }
 
 /// The list of fonts; gives what the original was asked for.
@@ -43,9 +52,11 @@ pub fn fonts(folder: &Path, list: &List) -> io::Result<Asked> {
     let mut asked = Asked::default();
     let mut stdin = Vec::new();
     let mut stdout = String::new();
-    for (_, font) in &list.fonts {
-        font_list::put(&mut stdin, font);
-        stdout.push_str(&line(&font.0, font.1, &mut asked));
+    for (label, font) in &list.fonts {
+        font.put(&mut stdin);
+        let line = line(font, &mut asked);
+        let line = line.ok_or_else(|| io::Error::other(format!("difference in font {label:?}")))?;
+        stdout.push_str(&line);
         stdout.push('\n');
     }
     write(folder, &stdin, &stdout)?;

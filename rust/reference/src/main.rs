@@ -3,6 +3,7 @@
 use std::{env, fs, io, path::PathBuf, process::ExitCode, time::Instant};
 
 use jobs::{font_list, list};
+use plain::reading::is_known;
 use reference::{describe, families, lists, offers, pairs};
 
 const USAGE: &str = "\
@@ -12,7 +13,8 @@ usage:
   reference jobs --out DIR [--seed S] [--count N] [--labels]
   reference jobs --compare-only [--seed S] [--count N]
   reference pairs --out DIR
-  reference describe FONTFILE [--number N]";
+  reference describe FONTFILE [--reading R] [--number N]
+R is 0 or 1.";
 
 /// Seed of the lists where none is given.
 const SEED: u64 = 1;
@@ -28,6 +30,7 @@ struct Options {
     labels: bool,
     compare_only: bool,
     file: Option<PathBuf>,
+    reading: u32,
     number: u16,
 }
 
@@ -37,6 +40,7 @@ fn options(mut args: impl Iterator<Item = String>) -> Option<Options> {
         match arg.as_str() {
             "--out" => options.out = Some(args.next()?.into()),
             "--seed" => options.seed = Some(args.next()?.parse().ok()?),
+            "--reading" => options.reading = args.next()?.parse().ok().filter(|r| is_known(*r))?,
             "--number" => options.number = args.next()?.parse().ok()?,
             "--count" => options.count = Some(args.next()?.parse().ok()?),
             "--labels" => options.labels = true,
@@ -97,8 +101,10 @@ fn run() -> Option<io::Result<()>> {
         }
         "jobs" => jobs(&options, seed)?,
         "pairs" => pairs::write(&options.out?),
-        "describe" => fs::read(options.file?)
-            .map(|bytes| println!("{}", describe::line(&bytes, options.number))),
+        "describe" => fs::read(options.file?).map(|bytes| {
+            let line = describe::line(&bytes, options.reading, options.number);
+            println!("{line}");
+        }),
         _ => return None,
     })
 }

@@ -12,20 +12,25 @@ use std::{
 
 use jobs::{
     bytes::{fonts_stated, hex},
-    counts::{self, Asked},
+    counts::{self, Asked, Record},
     damage::{Expected, is_font},
     layout::{self, Job, Request},
     list::Case,
+    readings::UNKNOWN,
 };
-use plain::{Offer, job, lines, offers::OUTPUT};
+use plain::{Offer, job, lines, offers::OUTPUT, reading::READINGS};
 
 use crate::{
-    Attributes, CharmapIndex, Collection, FamilyId, FamilyInfo, FontWeight, FontWidth, QueryFont,
-    QueryStatus, SourceCache, as_plain, describe, families,
+    Attributes, CharmapIndex, Collection, FamilyId, FamilyInfo, FontInfo, FontWeight, FontWidth,
+    QueryFont, QueryStatus, SourceCache, as_plain, describe, families,
     family_name::{FamilyName, FamilyNameMap},
     lists,
     source::{SourceId, SourceInfo, SourceKind},
+    turned,
 };
+
+/// The offers of every request.
+type Lists = Vec<Vec<Offer>>;
 
 /// What has been compared.
 #[derive(Copy, Clone, Default)]
@@ -58,73 +63,86 @@ impl Default for Harness {
 }
 
 impl Harness {
-    /// Compares the two on one job and gives its lines, or says where they
-    /// differ.
-    pub fn compare(&mut self, case: &Case) -> Result<Lines, String> {
+    /// Compares the two on one job and gives its lines under each reading, or
+    /// says where they differ.
+    pub fn compare(&mut self, case: &Case) -> Result<[Lines; 2], String> {
         let bytes = &case.bytes[..];
         let (number, position) = plain::check(bytes);
         let asked = fonts_agree(bytes, number, position as usize)?;
         known(number, position as usize, case.expected)?;
+        unknown_readings(bytes)?;
         let counts = &mut self.counts.all;
         counts.asked.add(asked);
         counts.job(case.expected, number, position as usize);
         if number != 0 {
             refused_calls(bytes, number)?;
-            return Ok(Lines::of(format!("refused {number} {position}\n")));
+            let lines = Lines::of(format!("refused {number} {position}\n"));
+            return Ok([lines.clone(), lines]);
         }
-        let lines = self.compare_offers(bytes)?;
-        if lines.printed != plain::text(bytes) {
-            return Err("the lines differ".into());
-        }
-        Ok(lines)
-    }
-
-    fn compare_offers(&mut self, bytes: &[u8]) -> Result<Lines, String> {
         let job = parts(bytes)?;
         if layout::write(&job).bytes != bytes {
             return Err("accepted, but its parts are written down as another job".into());
         }
-        let read = plain::job::read(bytes).map_err(|refusal| format!("{refusal:?}"))?;
-        let mut original = self.original(&job)?;
-        self.counts.all.faces(&job);
-        self.counts.families += job.families.len() as u64;
-        let mut lines = Lines::of(format!("requests {}\n", job.requests.len()));
+        let lists = [
+            self.compare_offers(bytes, &job, 0)?,
+            self.compare_offers(bytes, &job, 1)?,
+        ];
+        self.count(&job, &lists);
+        lines_of(bytes, &lists)
+    }
+
+    /// The offers of every request, on which both agree.
+    fn compare_offers(
+        &self,
+        bytes: &[u8],
+        job: &Job<&[u8]>,
+        reading: u32,
+    ) -> Result<Lists, String> {
+        let read = plain::job::read(bytes, reading).map_err(|refusal| format!("{refusal:?}"))?;
+        let mut original = self.original(job, reading)?;
+        let mut lists = Lists::new();
         for (number, request) in job.requests.iter().enumerate() {
             let by_original = original.offers(request);
-            let by_plain = plain::offers(&read, &read.requests[number]);
+            let by_plain = plain::offers(&read, reading, &read.requests[number]);
             if records(&by_original) != records(&by_plain) {
                 return Err(format!(
-                    "request {number}:\n the original {by_original:?}\n plain {by_plain:?}"
+                    "reading {reading}, request {number}:\n the original {by_original:?}\n plain {by_plain:?}"
                 ));
-            }
-            self.counts.all.request(&records(&by_original));
-            self.counts.full += u64::from(by_original.len() == usize::from(request.most));
-            for offer in &by_original {
-                lines.put(number, offer);
             }
             // The call, at both ends of one list in a job.
             if number as u64 == self.counts.all.jobs % job.requests.len() as u64 {
-                calls(bytes, number as u32, &by_original)?;
+                calls(bytes, (reading, number as u32), &by_original)?;
             }
+            lists.push(by_original);
         }
         let mut out = [0x5a; OUTPUT];
-        let past = plain::offer(bytes, job.requests.len() as u32, 0, &mut out);
+        let past = plain::offer(bytes, reading, job.requests.len() as u32, 0, &mut out);
         if past != 28 || out != [0x5a; OUTPUT] {
             return Err(format!("a request past the job: {past}"));
         }
-        Ok(lines)
+        Ok(lists)
+    }
+
+    /// Counts a job that is accepted.
+    fn count(&mut self, job: &Job<&[u8]>, [old, new]: &[Lists; 2]) {
+        self.counts.all.faces(job);
+        self.counts.families += job.families.len() as u64;
+        for ((old, new), request) in old.iter().zip(new).zip(&job.requests) {
+            self.counts.all.request([&records(old), &records(new)]);
+            self.counts.full += u64::from(old.len() == usize::from(request.most));
+        }
     }
 
     /// The records of every request's offers by the original, of a job that is accepted.
-    pub fn records(&self, bytes: &[u8]) -> Result<Vec<Vec<[u8; OUTPUT]>>, String> {
+    pub fn records(&self, bytes: &[u8], reading: u32) -> Result<Vec<Vec<Record>>, String> {
         let job = parts(bytes)?;
-        let mut original = self.original(&job)?;
+        let mut original = self.original(&job, reading)?;
         let of_request = |request| records(&original.offers(request));
         Ok(job.requests.iter().map(of_request).collect())
     }
 
-    /// The original's families of a job.
-    fn original(&self, job: &Job<&[u8]>) -> Result<Original, String> {
+    /// The original's faces of a job: read, turned by the reading, overridden.
+    fn faces(&self, job: &Job<&[u8]>, reading: u32) -> Result<Vec<FontInfo>, String> {
         let mut faces = Vec::new();
         for face in &job.faces {
             let info = if face.held {
@@ -134,12 +152,21 @@ impl Harness {
                 let source = SourceInfo::new(SourceId::new(), kind);
                 describe::read_from(face.font, face.number, source)
             };
-            faces.push(info.map_err(|number| format!("a font: {number}"))?);
+            let mut info = info.map_err(|number| format!("a font: {number}"))?;
+            turned::face(&mut info, reading);
+            faces.push(info);
         }
         for given in &job.overrides {
             families::apply(&mut faces[usize::from(given.face)], given);
         }
+        Ok(faces)
+    }
+
+    /// The original's families of a job.
+    fn original(&self, job: &Job<&[u8]>, reading: u32) -> Result<Original, String> {
+        let faces = self.faces(job, reading)?;
         let mut original = Original {
+            reading,
             collection: Collection::default(),
             cache: SourceCache::default(),
             families: Vec::new(),
@@ -172,6 +199,7 @@ struct Place {
 type Family = (FamilyId, Vec<Place>);
 
 struct Original {
+    reading: u32,
     collection: Collection,
     cache: SourceCache,
     families: Vec<Family>,
@@ -185,7 +213,7 @@ impl Original {
         if most == 0 {
             return out;
         }
-        let families = &self.families;
+        let (families, reading) = (&self.families, self.reading);
         // A number that is not in the job is a family that nobody knows.
         let id = |number: &u16| match families.get(usize::from(*number)) {
             Some((id, _)) => *id,
@@ -202,7 +230,7 @@ impl Original {
             weight(request.weight),
         ));
         query.matches_with(|font| {
-            out.push(offer(families, font));
+            out.push(offer(families, reading, font));
             if out.len() == most {
                 QueryStatus::Stop
             } else {
@@ -213,8 +241,9 @@ impl Original {
     }
 }
 
-/// An offer of the original, by the numbers of the job.
-fn offer(families: &[Family], font: &QueryFont) -> Offer {
+/// An offer of the original, by the numbers of the job, its settings turned by
+/// the reading.
+fn offer(families: &[Family], reading: u32, font: &QueryFont) -> Offer {
     let (id, place) = font.family;
     let family = families
         .iter()
@@ -226,7 +255,7 @@ fn offer(families: &[Family], font: &QueryFont) -> Offer {
     Offer {
         family: family as u16,
         place: place as u16,
-        synthesis: as_plain::synthesis(&font.synthesis),
+        synthesis: as_plain::synthesis(&font.synthesis, reading),
         charmap: face.charmap,
     }
 }
@@ -245,7 +274,7 @@ fn parts(bytes: &[u8]) -> Result<Job<&[u8]>, String> {
 }
 
 /// The 40 bytes of each offer, so that all numbers are compared by their bits.
-fn records(offers: &[Offer]) -> Vec<[u8; OUTPUT]> {
+fn records(offers: &[Offer]) -> Vec<Record> {
     offers.iter().map(Offer::record).collect()
 }
 
@@ -275,20 +304,38 @@ impl Lines {
     }
 }
 
-/// The plain offer call against a list: its first, its last, one past it.
-fn calls(bytes: &[u8], request: u32, list: &[Offer]) -> Result<(), String> {
+/// The lines of a job under each reading, which the plain reading has too.
+fn lines_of(bytes: &[u8], lists: &[Lists; 2]) -> Result<[Lines; 2], String> {
+    let lines = [0, 1].map(|reading| {
+        let lists = &lists[reading];
+        let mut lines = Lines::of(format!("requests {}\n", lists.len()));
+        for (request, list) in lists.iter().enumerate() {
+            list.iter().for_each(|offer| lines.put(request, offer));
+        }
+        lines
+    });
+    let plain = READINGS.map(|reading| plain::text(bytes, reading));
+    if lines.each_ref().map(|lines| &lines.printed) != plain.each_ref() {
+        return Err("the lines differ".into());
+    }
+    Ok(lines)
+}
+
+/// The plain offer call against a list, of a reading and a request: its first,
+/// its last, one past it.
+fn calls(bytes: &[u8], (reading, request): (u32, u32), list: &[Offer]) -> Result<(), String> {
     let length = list.len() as u32;
     for number in [0, length.saturating_sub(1), length, u32::MAX] {
         let untouched = [0x5a; OUTPUT];
         let mut out = untouched;
-        let answer = plain::offer(bytes, request, number, &mut out);
+        let answer = plain::offer(bytes, reading, request, number, &mut out);
         let expected = match list.get(number as usize) {
             Some(offer) => (0, offer.record()),
             None => (1, untouched),
         };
         if (answer, out) != expected {
             return Err(format!(
-                "the call for request {request}, offer {number}: {answer} {out:02x?}"
+                "the call for reading {reading}, request {request}, offer {number}: {answer} {out:02x?}"
             ));
         }
     }
@@ -297,11 +344,32 @@ fn calls(bytes: &[u8], request: u32, list: &[Offer]) -> Result<(), String> {
 
 /// The plain offer call on a refused job: the number, and nothing written.
 fn refused_calls(bytes: &[u8], number: u32) -> Result<(), String> {
+    for reading in READINGS {
+        no_offer(bytes, reading, number)?;
+    }
+    Ok(())
+}
+
+/// The plain offer call on any job under a number that is no reading: 25, but
+/// for a job that is too long.
+fn unknown_readings(bytes: &[u8]) -> Result<(), String> {
+    let number = if bytes.len() > job::BYTES { 17 } else { 25 };
+    for reading in [2, UNKNOWN[bytes.len() % UNKNOWN.len()]] {
+        no_offer(bytes, reading, number)?;
+    }
+    Ok(())
+}
+
+/// The plain offer call has to give the refusal, or 16 for a short output, and
+/// to write nothing.
+fn no_offer(bytes: &[u8], reading: u32, number: u32) -> Result<(), String> {
     let mut out = [0x5a; OUTPUT];
-    let answer = plain::offer(bytes, 0, 0, &mut out);
-    let short = plain::offer(bytes, 0, 0, &mut out[..OUTPUT - 1]);
+    let answer = plain::offer(bytes, reading, 0, 0, &mut out);
+    let short = plain::offer(bytes, reading, 0, 0, &mut out[..OUTPUT - 1]);
     if answer != number || short != 16 || out != [0x5a; OUTPUT] {
-        return Err(format!("the call on a refused job: {answer} {short}"));
+        return Err(format!(
+            "the call for reading {reading}: {answer} {short}, not {number} and 16"
+        ));
     }
     Ok(())
 }
@@ -402,9 +470,10 @@ pub fn write(folder: &Path, cases: impl Iterator<Item = Case>) -> io::Result<Cou
     let mut stdout = String::new();
     let mut harness = Harness::default();
     for case in cases {
-        let lines = compare(&mut harness, &case)?;
         lists::put(&mut stdin, &case.bytes);
-        stdout.push_str(&lines.indexed);
+        for lines in compare(&mut harness, &case)? {
+            stdout.push_str(&lines.indexed);
+        }
     }
     lists::write(folder, &stdin, &stdout)?;
     Ok(harness.counts)
@@ -420,7 +489,7 @@ pub fn compare_all(cases: impl Iterator<Item = Case>) -> io::Result<Counts> {
 }
 
 /// A difference or a panic is an error that tells the job in hexadecimal digits.
-pub fn compare(harness: &mut Harness, case: &Case) -> io::Result<Lines> {
+pub fn compare(harness: &mut Harness, case: &Case) -> io::Result<[Lines; 2]> {
     let answer = panic::catch_unwind(AssertUnwindSafe(|| harness.compare(case)));
     let answer = answer.unwrap_or_else(|_| Err("a panic".into()));
     answer.map_err(|difference| {
@@ -436,14 +505,14 @@ impl Counts {
     pub fn text(&self) -> String {
         let all = &self.all;
         format!(
-            "{}{}{} families {} requests {}\n{} lists as long as their most {}\nno difference\n",
+            "{}{}{} families {}\nrequests {} lists as long as their most {}\n{}no difference\n",
             all.jobs_text(),
             all.asked.text(),
             all.faces_text(),
             self.families,
             all.requests,
-            all.offers_text(),
             self.full,
+            all.offers_text(),
         )
     }
 }
@@ -451,7 +520,7 @@ impl Counts {
 #[cfg(test)]
 mod tests {
     use super::*;
-    use jobs::list;
+    use jobs::{counts::Differing, list};
 
     fn cases(seed: u64, count: usize) -> impl Iterator<Item = Case> {
         list::made()
@@ -469,16 +538,39 @@ mod tests {
         // One font of each job that is refused with 31, and no other.
         assert_eq!(counts.asked.left_out, counts.refused[31]);
         assert!(counts.asked.fonts > counts.faces);
+        // The readings are not the same thing.
+        let Differing { faces, settings } = counts.differing;
+        assert!(faces > 300 && settings > 300, "{faces} {settings}");
     }
 
     #[test]
     fn example_of_section_7() {
         let case = &list::made()[0];
-        let lines = Harness::default().compare(case).unwrap();
-        assert_eq!(lines.printed, "requests 1\n0 0 1 - 0\n0 0 0 b 0\n");
-        // Past a directory of two records, OS/2 and the head of cmap.
-        let indexed = "requests 1\n0 0 1 - 0 134 0 0\n0 0 0 b 0 134 0 0\n";
-        assert_eq!(lines.indexed, indexed);
+        for lines in Harness::default().compare(case).unwrap() {
+            assert_eq!(lines.printed, "requests 1\n0 0 1 - 0\n0 0 0 b 0\n");
+            // Past a directory of two records, OS/2 and the head of cmap.
+            let indexed = "requests 1\n0 0 1 - 0 134 0 0\n0 0 0 b 0 134 0 0\n";
+            assert_eq!(lines.indexed, indexed);
+        }
+    }
+
+    /// By hand: the first face leans right, the second left.
+    #[test]
+    fn both_sides() {
+        let cases = list::made();
+        let case = cases
+            .iter()
+            .find(|case| case.label == "readings, both sides");
+        let lines = Harness::default().compare(case.unwrap()).unwrap();
+        // The first family for oblique 12 and for -12; the default follows.
+        let first = |lines: &Lines, request: usize| -> Vec<char> {
+            let of_family = |line: &&str| line.starts_with(&format!("{request} 0 "));
+            let all = lines.printed.lines().filter(of_family);
+            all.map(|line| line.chars().nth(4).unwrap()).collect()
+        };
+        let [old, new] = &lines;
+        assert_eq!((first(old, 3), first(old, 4)), (vec!['1'], vec!['0', '1']));
+        assert_eq!((first(new, 3), first(new, 4)), (vec!['0'], vec!['1', '0']));
     }
 
     /// A wrong expectation is told.

@@ -21,11 +21,11 @@ fn sum(bytes: &[u8]) -> u32 {
 
 /// The line of a call: its answer, the 40 bytes where there are any, and
 /// whether all others are as they were.
-fn put_call(text: &mut String, job: &[u8], (request, number, size): Call) {
+fn put_call(text: &mut String, job: &[u8], (reading, request, number, size): Call) {
     let before = filler(SPACE, 9);
     let mut out = before.clone();
-    let answer = plain::offer(job, request, number, &mut out[..size]);
-    let _ = write!(text, " {request} {number} {size}: {answer} ");
+    let answer = plain::offer(job, reading, request, number, &mut out[..size]);
+    let _ = write!(text, " {reading} {request} {number} {size}: {answer} ");
     let written = if answer == 0 { size } else { 0 };
     text.push_str(&hex(&out[..written]));
     if written != 0 {

@@ -102,7 +102,7 @@ fn file(parts: &[Part]) -> Vec<u8> {
 }
 
 fn read(parts: &[Part]) -> Result<Font, u32> {
-    font::read(&file(parts), 0)
+    font::read(&file(parts), 0, 0)
 }
 
 /// The attributes of a font that is accepted.
@@ -189,7 +189,12 @@ fn half_copied_files() {
         let needed = needed as usize;
         for less in [1, 2, needed / 2, needed - 1, needed] {
             let cut = &file[..file.len() - less];
-            assert_eq!(font::read(cut, 0), Err(31), "{} {less}", tag.escape_ascii());
+            assert_eq!(
+                font::read(cut, 0, 0),
+                Err(31),
+                "{} {less}",
+                tag.escape_ascii()
+            );
         }
     }
     // OpenType lets an OS/2 of version 0 have 68 bytes.
@@ -308,14 +313,14 @@ fn turn_of_31() {
             let good = file(&damaged());
             let mut bad = good.clone();
             bad[0] = 9;
-            assert_eq!(font::read(&bad, 0), Err(21));
-            assert_eq!(font::read(&good, 1), Err(30));
-            assert_eq!(font::read(&bad, 1), Err(30));
+            assert_eq!(font::read(&bad, 0, 0), Err(21));
+            assert_eq!(font::read(&good, 0, 1), Err(30));
+            assert_eq!(font::read(&bad, 0, 1), Err(30));
             let mut bad = good.clone();
             bad[4] = 0xff;
-            assert_eq!(font::read(&bad, 0), Err(21));
-            assert_eq!(font::read(&good[..11], 0), Err(21));
-            assert_eq!(font::read(&good[..11], 1), Err(21));
+            assert_eq!(font::read(&bad, 0, 0), Err(21));
+            assert_eq!(font::read(&good[..11], 0, 0), Err(21));
+            assert_eq!(font::read(&good[..11], 0, 1), Err(21));
         }
     }
     // 22 and 23 as before, where nothing that is needed is damaged.
@@ -364,9 +369,9 @@ fn fonts_of_a_collection() {
             let second = 20 + bare.len();
             let font = file_at(second, &needing(tag, record));
             let file = collection(1, &[20, second as u32], &[&bare, &font]);
-            assert!(font::read(&file, 0).is_ok());
-            assert_eq!(font::read(&file, 1), Err(31), "{record:?}");
-            assert_eq!(font::read(&file, 2), Err(30));
+            assert!(font::read(&file, 0, 0).is_ok());
+            assert_eq!(font::read(&file, 0, 1), Err(31), "{record:?}");
+            assert_eq!(font::read(&file, 0, 2), Err(30));
             // In a job it is placed at the length, 30 at the number.
             assert_eq!(check(&job_of_file(&file, &[0, 0])), (0, 0));
             assert_eq!(check(&job_of_file(&file, &[0, 1])), (31, 3));
@@ -384,7 +389,7 @@ fn fonts_of_a_collection() {
 fn fonts_of_the_generator() {
     for plan in &jobs::damaged::PLANS {
         for cut in jobs::damaged::CUTS {
-            let answer = |file: &[u8], number| font::read(file, number).err().unwrap_or(0);
+            let answer = |file: &[u8], number| font::read(file, 0, number).err().unwrap_or(0);
             let label = format!("{}, {}", plan.label, cut.label());
             assert_eq!(answer(&plan.lone(|| cut), 0), plan.refused, "{label}");
             for last in [false, true] {
@@ -405,8 +410,8 @@ fn jobs_with_damaged_tables() {
     let job = job_of_file(&file, &[]);
     assert_eq!(check(&job), (31, length));
     let mut out = [0xaa; 40];
-    assert_eq!(offer(&job, 0, 0, &mut out), 31);
-    assert_eq!(offer(&job, 0, 0, &mut out[..39]), 16);
+    assert_eq!(offer(&job, 0, 0, 0, &mut out), 31);
+    assert_eq!(offer(&job, 0, 0, 0, &mut out[..39]), 16);
     assert_eq!(out, [0xaa; 40]);
     // A face that is not held, and one whose held byte is refused.
     let mut other = job.clone();

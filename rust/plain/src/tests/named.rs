@@ -47,7 +47,7 @@ fn stages_in_their_turn() {
 fn offers_of(label: &str) -> (Vec<u8>, Vec<[u16; 3]>) {
     let case = made().into_iter().find(|case| case.label == label);
     let bytes = case.expect("a job with the label").bytes;
-    let offers = text(&bytes)
+    let offers = text(&bytes, 0)
         .lines()
         .skip(1)
         .map(|line| {
