@@ -46,8 +46,11 @@ impl From<Refusal> for Answer {
 #[derive(Copy, Clone)]
 pub struct Calls {
     pub check: fn(&[u8]) -> Answer,
-    pub offer: fn(&[u8], u32, u32, &mut [u8]) -> Answer,
+    pub offer: Offer,
 }
+
+/// Job, what is asked for, and the output, whose length is that of the ask.
+pub type Offer = fn(&[u8], Ask, &mut [u8]) -> Answer;
 
 pub const PROVED: Calls = Calls { check, offer };
 
@@ -58,8 +61,8 @@ pub fn check(job: &[u8]) -> Answer {
     }
 }
 
-pub fn offer(job: &[u8], request: u32, number: u32, out: &mut [u8]) -> Answer {
-    match stemhook::offer_bytes(job, request, number, out) {
+pub fn offer(job: &[u8], ask: Ask, out: &mut [u8]) -> Answer {
+    match stemhook::offer_bytes(job, ask.reading, ask.request, ask.offer, out) {
         Ok(true) => Answer::of(0),
         Ok(false) => Answer::of(1),
         Err(refused) => refused.into(),
@@ -74,6 +77,7 @@ const MARGIN: usize = 8;
 /// An offer that is asked for.
 #[derive(Copy, Clone, Debug)]
 pub struct Ask {
+    pub reading: u32,
     pub request: u32,
     pub offer: u32,
     /// Bytes of output.
@@ -82,8 +86,9 @@ pub struct Ask {
 
 impl Ask {
     /// With an output of the right length.
-    pub const fn new(request: u32, offer: u32) -> Self {
+    pub const fn new(reading: u32, request: u32, offer: u32) -> Self {
         Self {
+            reading,
             request,
             offer,
             length: OFFER_BYTES,
@@ -99,7 +104,7 @@ impl Calls {
         let range = MARGIN..MARGIN + ask.length;
         space[range.clone()].fill(UNTOUCHED);
         let out = &mut space[range.clone()];
-        let answer = (self.offer)(job, ask.request, ask.offer, out);
+        let answer = (self.offer)(job, ask, out);
         let beside = space[..range.start].iter().chain(&space[range.end..]);
         if beside.copied().any(|byte| byte != BESIDE) {
             return Err(format!(

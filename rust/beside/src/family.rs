@@ -1,5 +1,6 @@
-//! Families: choice, equal list, default and synthesis of the linked program
-//! beside the plain reading, and beside the original where that is here.
+//! Families: choice, equal list, default, and synthesis under each reading, of
+//! the linked program beside the plain reading, and beside the original where
+//! that is here.
 
 use jobs::{
     families::{self, Asked, Case, FacePlan},
@@ -43,7 +44,7 @@ fn plain_override(given: &Override) -> font::Override {
 
 /// A face as the plain reading holds it.
 fn face(plan: &FacePlan) -> Font {
-    let mut font = font::read(&plan.file(), 0).expect("a font that is not refused");
+    let mut font = font::read(&plan.file(), 0, 0).expect("a font that is not refused");
     font::apply_override(&mut font, &plain_override(&plan.given()));
     font
 }
@@ -80,23 +81,41 @@ pub struct Counts {
     pub choices: u64,
     /// Lines without a choice.
     pub none: u64,
+    /// Lines whose synthesis is another under reading 1.
+    pub differing: u64,
+    /// Of those, lines that set `slnt` to minus zero under reading 0.
+    pub minus_zeros: u64,
     pub kinds: Kinds,
+}
+
+/// `slnt` is set last, and under reading 0 to minus zero.
+const MINUS_ZERO: &str = " slnt=80000000 | ";
+
+/// Whether the synthesis of a line is the same under both readings.
+fn same_synthesis(line: &str) -> bool {
+    let (old, new) = line.split_once(" | ").expect("two readings");
+    old.ends_with(&format!(" {new}"))
 }
 
 impl Counts {
     fn add(&mut self, case: &Case, lines: &[String; 2]) {
         self.families += 1;
         self.choices += 2;
-        self.none += lines.iter().filter(|line| line.starts_with('-')).count() as u64;
+        let count = |so: &dyn Fn(&str) -> bool| lines.iter().filter(|line| so(line)).count() as u64;
+        self.none += count(&|line| line.starts_with('-'));
+        self.differing += count(&|line| !same_synthesis(line));
+        self.minus_zeros += count(&|line| line.contains(MINUS_ZERO));
         self.kinds.add(case);
     }
 
     pub fn text(&self) -> String {
         format!(
-            "families {} choices {} of them none chosen {}\n{}",
+            "families {} choices {} of them none chosen {}\nlines that differ between the readings {} of them from minus zero {}\n{}",
             self.families,
             self.choices,
             self.none,
+            self.differing,
+            self.minus_zeros,
             self.kinds.text()
         )
     }
@@ -215,6 +234,63 @@ mod tests {
         let counts = compare(&MATCH_CASES, 3, 6001).unwrap();
         assert_eq!((counts.choices, counts.families), (6002, 3001));
         assert!(counts.none > 50);
+        assert!(counts.differing > 300 && counts.minus_zeros > 10);
+    }
+
+    #[test]
+    fn lines_under_both_readings() {
+        assert!(same_synthesis(
+            "0 0 0 b 0 wght=44228000 | b 0 wght=44228000"
+        ));
+        assert!(same_synthesis("- - 1 - 0 | - 0"));
+        assert!(!same_synthesis(
+            "0 0 0 - 0 slnt=41600000 | - 0 slnt=c1600000"
+        ));
+        assert!(!same_synthesis(
+            "0 0 0 - 0 slnt=80000000 | - 0 slnt=00000000"
+        ));
+    }
+
+    /// What the program prints, with both parts of each line changed.
+    fn printed(list: &[u8], change: fn(&str, &str) -> [String; 2]) -> Result<String, String> {
+        let text = (MATCH_CASES.run)(&MATCH_CASES, list)?;
+        let line = |line: &str| {
+            let (old, new) = line.split_once(" | ").expect("two readings");
+            change(old, new).join(" | ") + "\n"
+        };
+        Ok(text.lines().map(line).collect())
+    }
+
+    /// The reading is ignored, the sign of a zero kept, or the other line turned
+    /// too; each is told with one face that has the axis.
+    #[test]
+    fn wrong_readings_are_told() {
+        type Run = fn(&Program, &[u8]) -> Result<String, String>;
+        let ignored: Run = |_, list| {
+            printed(list, |old, _| {
+                let words: Vec<&str> = old.split(' ').skip(3).collect();
+                [old.into(), words.join(" ")]
+            })
+        };
+        let signed: Run = |_, list| {
+            printed(list, |old, new| {
+                let new = new.replace("slnt=00000000", "slnt=80000000");
+                [old.into(), new]
+            })
+        };
+        let both: Run = |_, list| {
+            printed(list, |old, new| {
+                let old = old.replace("slnt=41600000", "slnt=c1600000");
+                [old, new.into()]
+            })
+        };
+        for run in [ignored, signed, both] {
+            let wrong = Program { run, ..MATCH_CASES };
+            let told = compare(&wrong, 3, 6000).err().expect("a difference");
+            assert_eq!(told.matches("FacePlan").count(), 1, "{told}");
+            assert_eq!(told.matches("AxisPlan").count(), 1, "{told}");
+            assert!(told.contains("slnt="), "{told}");
+        }
     }
 
     /// A wrong line is told with a small family.
@@ -244,7 +320,7 @@ mod tests {
         let more = Program {
             run: |_, list| {
                 let text = (MATCH_CASES.run)(&MATCH_CASES, list)?;
-                Ok(text + "0 0 0 - 0\n")
+                Ok(text + "0 0 0 - 0 | - 0\n")
             },
             ..MATCH_CASES
         };

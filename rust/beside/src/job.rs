@@ -7,10 +7,12 @@ use std::{
 
 use jobs::{
     bytes::hex,
-    counts::{self, Asked},
+    counts::{self, Asked, Record},
     layout,
     list::Case,
+    readings::UNKNOWN,
 };
+use plain::{job::Refusal, reading::READINGS};
 use stemhook::limits::{OFFER_BYTES, REQUESTS};
 
 use crate::{
@@ -18,8 +20,6 @@ use crate::{
     original::{self, Original},
     shrink,
 };
-
-pub type Record = [u8; OFFER_BYTES];
 
 /// The records of every request's offers.
 pub type Lists = Vec<Vec<Record>>;
@@ -34,20 +34,25 @@ const SHOWN: usize = 65_536;
 #[derive(Clone, PartialEq, Eq, Debug)]
 pub enum Said {
     Refused(Answer),
-    Offers(Lists),
+    /// Under each reading.
+    Offers([Lists; 2]),
+}
+
+/// The lists of a job under a reading, by the plain reading of the guide.
+fn plain_lists(job: &[u8], reading: u32) -> Result<Lists, Refusal> {
+    let job = plain::job::read(job, reading)?;
+    let list = |request| {
+        let offers = plain::offers(&job, reading, request);
+        offers.iter().map(plain::Offer::record).collect()
+    };
+    Ok(job.requests.iter().map(list).collect())
 }
 
 impl Said {
     pub fn by_plain(job: &[u8]) -> Self {
-        match plain::job::read(job) {
-            Err(refusal) => Self::Refused(refusal.into()),
-            Ok(job) => {
-                let list = |request| {
-                    let offers = plain::offers(&job, request);
-                    offers.iter().map(plain::Offer::record).collect()
-                };
-                Self::Offers(job.requests.iter().map(list).collect())
-            }
+        match READINGS.map(|reading| plain_lists(job, reading)) {
+            [Ok(old), Ok(new)] => Self::Offers([old, new]),
+            [Err(refusal), _] | [_, Err(refusal)] => Self::Refused(refusal.into()),
         }
     }
 
@@ -67,17 +72,25 @@ impl fmt::Display for Said {
                 Some(position) => write!(f, "refused {number} {position}"),
                 None => write!(f, "refused {number} without a position"),
             },
-            Self::Offers(lists) => {
-                write!(f, "requests {}", lists.len())?;
-                for (request, list) in lists.iter().enumerate() {
-                    for (offer, record) in list.iter().enumerate() {
-                        write!(f, "\n  {request} {offer} {}", hex(record))?;
-                    }
+            Self::Offers(readings) => {
+                write!(f, "requests {}", readings[0].len())?;
+                for (reading, lists) in readings.iter().enumerate() {
+                    write_lists(f, reading, lists)?;
                 }
                 Ok(())
             }
         }
     }
+}
+
+/// A line for each offer: reading, request, offer and record.
+fn write_lists(f: &mut fmt::Formatter<'_>, reading: usize, lists: &Lists) -> fmt::Result {
+    for (request, list) in lists.iter().enumerate() {
+        for (offer, record) in list.iter().enumerate() {
+            write!(f, "\n  {reading} {request} {offer} {}", hex(record))?;
+        }
+    }
+    Ok(())
 }
 
 /// The output of a call, in words.
@@ -97,24 +110,50 @@ impl Calls {
         }
     }
 
-    /// An output of the wrong length is refused, whatever the job.
-    fn refuses_lengths(&self, job: &[u8], request: u32) -> Result<(), String> {
+    /// An output of the wrong length is refused, whatever the job and the reading.
+    fn refuses_lengths(&self, job: &[u8], reading: u32, request: u32) -> Result<(), String> {
         for length in [OFFER_BYTES - 1, OFFER_BYTES + 1] {
             let ask = Ask {
                 length,
-                ..Ask::new(request, 0)
+                ..Ask::new(reading, request, 0)
             };
             self.refuses(job, ask, Answer::of(16))?;
         }
         Ok(())
     }
 
+    /// A number that is no reading is refused before the job is looked at, save
+    /// for one that is too long; and before the request, which may be past it.
+    fn refuses_readings(&self, job: &[u8], checked: Answer) -> Result<(), String> {
+        let expected = match checked.number {
+            17 => checked,
+            _ => Answer::of(25),
+        };
+        for reading in unknown(job) {
+            for (request, offer) in [(0, 0), (u32::MAX, u32::MAX)] {
+                self.refuses(job, Ask::new(reading, request, offer), expected)?;
+            }
+            self.refuses_lengths(job, reading, 0)?;
+        }
+        Ok(())
+    }
+
+    /// A job that the check call refuses is refused so under both readings.
+    fn refuses_job(&self, job: &[u8], checked: Answer) -> Result<(), String> {
+        for reading in READINGS {
+            for (request, offer) in [(0, 0), (u32::MAX, 0), (0, u32::MAX)] {
+                self.refuses(job, Ask::new(reading, request, offer), checked)?;
+            }
+        }
+        Ok(())
+    }
+
     /// The offers of a request: 0, 1, 2 and so on until 1 is answered. None
     /// for a request that is not in the job.
-    fn list(&self, job: &[u8], request: u32) -> Result<Option<Vec<Record>>, String> {
+    fn list(&self, job: &[u8], reading: u32, request: u32) -> Result<Option<Vec<Record>>, String> {
         let mut list: Vec<Record> = Vec::new();
         while list.len() <= MOST {
-            let ask = Ask::new(request, list.len() as u32);
+            let ask = Ask::new(reading, request, list.len() as u32);
             match self.ask(job, ask)? {
                 (answer, Some(out)) if answer == Answer::of(0) => {
                     list.push(out.try_into().expect("as long as the output"));
@@ -129,37 +168,49 @@ impl Calls {
         Err(format!("request {request}: a list without an end"))
     }
 
-    /// All that the calls say of a job.
-    pub fn said(&self, job: &[u8]) -> Result<Said, String> {
-        self.refuses_lengths(job, 0)?;
-        let checked = (self.check)(job);
-        if checked.number != 0 {
-            for ask in [Ask::new(0, 0), Ask::new(u32::MAX, 0), Ask::new(0, u32::MAX)] {
-                self.refuses(job, ask, checked)?;
-            }
-            return Ok(Said::Refused(checked));
-        }
-        if checked.position.is_some() {
-            return Err(format!("accepted, and yet {checked:?}"));
-        }
+    /// The offers of every request under a reading, of a job that is accepted.
+    fn lists(&self, job: &[u8], reading: u32) -> Result<Lists, String> {
         let mut lists = Lists::new();
-        while let Some(list) = self.list(job, lists.len() as u32)? {
+        while let Some(list) = self.list(job, reading, lists.len() as u32)? {
             let request = lists.len() as u32;
             if lists.len() == REQUESTS {
                 return Err("requests without an end".into());
             }
             for past in [list.len() as u32 + 1, u32::MAX] {
-                self.refuses(job, Ask::new(request, past), Answer::of(1))?;
+                self.refuses(job, Ask::new(reading, request, past), Answer::of(1))?;
             }
             lists.push(list);
         }
         let past = lists.len() as u32;
-        for ask in [Ask::new(past, 1), Ask::new(u32::MAX, 0)] {
-            self.refuses(job, ask, Answer::of(28))?;
+        for (request, offer) in [(past, 1), (u32::MAX, 0)] {
+            self.refuses(job, Ask::new(reading, request, offer), Answer::of(28))?;
         }
-        self.refuses_lengths(job, past)?;
-        Ok(Said::Offers(lists))
+        self.refuses_lengths(job, reading, past)?;
+        Ok(lists)
     }
+
+    /// All that the calls say of a job.
+    pub fn said(&self, job: &[u8]) -> Result<Said, String> {
+        for reading in READINGS {
+            self.refuses_lengths(job, reading, 0)?;
+        }
+        let checked = (self.check)(job);
+        self.refuses_readings(job, checked)?;
+        if checked.number != 0 {
+            self.refuses_job(job, checked)?;
+            return Ok(Said::Refused(checked));
+        }
+        if checked.position.is_some() {
+            return Err(format!("accepted, and yet {checked:?}"));
+        }
+        Ok(Said::Offers([self.lists(job, 0)?, self.lists(job, 1)?]))
+    }
+}
+
+/// Three numbers that are no reading: 2, and two that change from job to job.
+fn unknown(job: &[u8]) -> [u32; 3] {
+    let other = |by: usize| UNKNOWN[(job.len() + by) % UNKNOWN.len()];
+    [2, other(0), other(5)]
 }
 
 /// What has been compared.
@@ -175,12 +226,12 @@ impl Counts {
         let (number, position) = said.answer();
         self.all.job(case.expected, number, position);
         self.all.asked.add(asked);
-        if let Said::Offers(lists) = said {
+        if let Said::Offers([old, new]) = said {
             let job = layout::parts(&case.bytes);
             self.all.faces(&job.expect("an accepted job has its parts"));
-            for list in lists {
-                self.all.request(list);
-                self.longest = self.longest.max(list.len());
+            for (old, new) in old.iter().zip(new) {
+                self.all.request([old, new]);
+                self.longest = self.longest.max(old.len()).max(new.len());
             }
         }
     }
@@ -189,7 +240,7 @@ impl Counts {
     pub fn text(&self) -> String {
         let (all, longest) = (&self.all, self.longest);
         format!(
-            "{}{}{}\nrequests {} {} longest list {longest}\n",
+            "{}{}{}\nrequests {} longest list {longest}\n{}",
             all.jobs_text(),
             original::asked_text(&all.asked),
             all.faces_text(),

@@ -18,7 +18,7 @@ pub type Family = [(Vec<u8>, String); 2];
 
 #[cfg(feature = "original")]
 mod here {
-    use jobs::{counts::Asked, families::Case, fonts::Numbered, overrides};
+    use jobs::{counts::Asked, families::Case, font_list::Entry, overrides};
     use reference::{describe, families, offers::Harness};
 
     use super::{Family, Lists};
@@ -27,9 +27,12 @@ mod here {
     pub struct Original(Harness);
 
     impl Original {
-        /// The records of every request's offers, of a job that is accepted.
-        pub fn lists(&self, job: &[u8]) -> Option<Result<Lists, String>> {
-            Some(self.0.records(job))
+        /// The records of every request's offers under each reading, of a job
+        /// that is accepted.
+        pub fn lists(&self, job: &[u8]) -> Option<Result<[Lists; 2], String>> {
+            let records = |reading| self.0.records(job, reading);
+            let both = records(0).and_then(|old| Ok([old, records(1)?]));
+            Some(both)
         }
     }
 
@@ -47,9 +50,10 @@ mod here {
         }))
     }
 
-    /// The line of a font. It takes a damaged table for absent.
-    pub fn font((file, number): &Numbered) -> Option<String> {
-        Some(describe::line(file, *number))
+    /// The line of a font under reading 0 or 1. It takes a damaged table for
+    /// absent.
+    pub fn font(font: &Entry) -> Option<String> {
+        Some(describe::line(&font.file, font.reading, font.number))
     }
 
     /// The line of a face by value.
@@ -60,7 +64,7 @@ mod here {
 
 #[cfg(not(feature = "original"))]
 mod here {
-    use jobs::{counts::Asked, families::Case, fonts::Numbered, overrides};
+    use jobs::{counts::Asked, families::Case, font_list::Entry, overrides};
 
     use super::{Family, Lists};
 
@@ -68,7 +72,7 @@ mod here {
     pub struct Original(());
 
     impl Original {
-        pub fn lists(&self, _job: &[u8]) -> Option<Result<Lists, String>> {
+        pub fn lists(&self, _job: &[u8]) -> Option<Result<[Lists; 2], String>> {
             None
         }
     }
@@ -81,7 +85,7 @@ mod here {
         None
     }
 
-    pub fn font(_font: &Numbered) -> Option<String> {
+    pub fn font(_font: &Entry) -> Option<String> {
         None
     }
 

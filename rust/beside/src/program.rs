@@ -7,6 +7,8 @@ use std::{
     process::{Command, Stdio},
 };
 
+use jobs::font_list;
+
 /// The folder of the programs when STEMHOOK_BIN is not set, from this package's folder.
 const DEFAULT: &str = "../../target/bin";
 
@@ -26,7 +28,7 @@ pub const MATCH_CASES: Program = Program {
 
 pub const FONT_CASES: Program = Program {
     name: "font_cases",
-    most: 262_144,
+    most: font_list::BYTES,
     run,
 };
 

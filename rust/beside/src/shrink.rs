@@ -6,7 +6,7 @@ use std::{ops::Range, panic};
 
 use jobs::{
     families,
-    fonts::Numbered,
+    font_list::Entry,
     layout::{self, Job},
 };
 
@@ -225,24 +225,28 @@ impl Input for families::Case {
     }
 }
 
-/// Of a file what is not dropped may become zero, and so may the font number.
-impl Input for Numbered {
+/// Of a file what is not dropped may become zero, and so may the reading and
+/// the font number.
+impl Input for Entry {
     fn size(&self) -> usize {
-        self.0.len()
+        self.file.len()
     }
 
     fn smaller(&self) -> Box<dyn Iterator<Item = Self> + '_> {
-        let (file, number) = self;
-        let shorter = file.smaller().map(|file| (file, *number));
+        let file = &self.file;
+        let shorter = file
+            .smaller()
+            .map(|file| Self::new(&file, self.reading, self.number));
         let set = (0..file.len()).filter(|at| file[*at] != 0);
-        let zeros = set.map(|at| changed(self, |next| next.0[at] = 0));
-        let first = (*number != 0).then(|| (file.clone(), 0));
-        Box::new(shorter.chain(first).chain(zeros))
+        let zeros = set.map(|at| changed(self, |next| next.file[at] = 0));
+        let old = (self.reading != 0).then(|| changed(self, |next| next.reading = 0));
+        let first = (self.number != 0).then(|| changed(self, |next| next.number = 0));
+        Box::new(shorter.chain(old).chain(first).chain(zeros))
     }
 }
 
 /// A shorter file that differs still, or one with more zeros.
-pub fn font(font: &Numbered, mut differs: impl FnMut(&Numbered) -> bool) -> Numbered {
+pub fn font(font: &Entry, mut differs: impl FnMut(&Entry) -> bool) -> Entry {
     descend(font.clone(), Budget::new(TRIES / 2), &mut differs)
 }
 
@@ -266,11 +270,15 @@ mod tests {
     #[test]
     fn fonts_shrink() {
         let bytes: Vec<u8> = (0..200).collect();
-        let start = (bytes, 300);
-        let least = font(&start, |(file, _)| file.contains(&7) && file.contains(&150));
-        assert_eq!(least, (vec![7, 150], 0));
-        let numbered = font(&start, |(file, number)| file.len() > 3 && *number > 4);
-        assert_eq!(numbered, (vec![0; 4], 300));
+        let start = Entry::new(&bytes, 1, 300);
+        let least = font(&start, |Entry { file, .. }| {
+            file.contains(&7) && file.contains(&150)
+        });
+        assert_eq!(least, Entry::new(&[7, 150], 0, 0));
+        let numbered = font(&start, |font| font.file.len() > 3 && font.number > 4);
+        assert_eq!(numbered, Entry::new(&[0; 4], 0, 300));
+        let read = font(&start, |font| font.reading == 1);
+        assert_eq!(read, Entry::new(&[], 1, 0));
     }
 
     #[test]

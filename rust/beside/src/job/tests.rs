@@ -3,8 +3,11 @@
 use std::{env, process::Command};
 
 use super::*;
-use crate::calls::{self, PROVED};
-use jobs::{damage::Expected, list};
+use crate::calls::{self, Offer, PROVED};
+use jobs::{counts::Differing, damage::Expected, list};
+use plain::reading::is_known;
+
+mod readings;
 
 fn cases() -> impl Iterator<Item = Case> {
     list::made().into_iter().chain(list::random(5).take(400))
@@ -21,7 +24,10 @@ fn compare(calls: Calls) -> Result<Counts, String> {
 #[test]
 fn no_difference() {
     let counts = compare(PROVED).unwrap().all;
-    assert!(counts.accepted > 300 && counts.offers > 10_000);
+    assert!(counts.accepted > 300 && counts.offers.iter().all(|offers| *offers > 10_000));
+    // The readings are not the same thing.
+    let Differing { faces, settings } = counts.differing;
+    assert!(faces > 50 && settings > 50, "{faces} {settings}");
     assert!(
         (18..=27)
             .chain([30, 31])
@@ -44,8 +50,6 @@ fn told(name: &str, calls: Calls) -> String {
     told
 }
 
-type Offer = fn(&[u8], u32, u32, &mut [u8]) -> Answer;
-
 /// Each wrong call is told, with what each side says.
 fn offer_calls_are_told(wrong: &[(&str, Offer)]) {
     for (name, offer) in wrong {
@@ -62,22 +66,22 @@ fn offer_calls_are_told(wrong: &[(&str, Offer)]) {
 #[test]
 fn wrong_records_are_told() {
     offer_calls_are_told(&[
-        ("a byte of the record", |job, request, offer, out| {
-            let answer = calls::offer(job, request, offer, out);
+        ("a byte of the record", |job, ask, out| {
+            let answer = calls::offer(job, ask, out);
             if answer.number == 0 {
                 out[3] ^= 1;
             }
             answer
         }),
-        ("the last byte", |job, request, offer, out| {
-            let answer = calls::offer(job, request, offer, out);
+        ("the last byte", |job, ask, out| {
+            let answer = calls::offer(job, ask, out);
             if answer.number == 0 {
                 out[39] = 1;
             }
             answer
         }),
-        ("a setting's bits", |job, request, offer, out| {
-            let answer = calls::offer(job, request, offer, out);
+        ("a setting's bits", |job, ask, out| {
+            let answer = calls::offer(job, ask, out);
             if answer.number == 0 && out[6] > 0 {
                 out[15] ^= 1;
             }
@@ -90,20 +94,20 @@ fn wrong_records_are_told() {
 #[test]
 fn wrong_writing_is_told() {
     offer_calls_are_told(&[
-        ("unwritten", |job, request, offer, out| {
+        ("unwritten", |job, ask, out| {
             let mut other = [0; OFFER_BYTES];
             let length = out.len().min(OFFER_BYTES);
-            calls::offer(job, request, offer, &mut other[..length])
+            calls::offer(job, ask, &mut other[..length])
         }),
-        ("written past the list", |job, request, offer, out| {
-            let answer = calls::offer(job, request, offer, out);
+        ("written past the list", |job, ask, out| {
+            let answer = calls::offer(job, ask, out);
             if answer.number == 1 {
                 out[0] = 0;
             }
             answer
         }),
-        ("written where refused", |job, request, offer, out| {
-            let answer = calls::offer(job, request, offer, out);
+        ("written where refused", |job, ask, out| {
+            let answer = calls::offer(job, ask, out);
             if answer.number >= 16 {
                 out[38] = 0;
             }
@@ -115,26 +119,24 @@ fn wrong_writing_is_told() {
 #[test]
 fn wrong_offers_are_told() {
     offer_calls_are_told(&[
-        (
-            "the first offer alone",
-            |job, request, offer, out| match offer {
-                0 => calls::offer(job, request, 0, out),
-                _ => Answer::of(1),
-            },
-        ),
-        ("the next offer", |job, request, offer, out| {
-            calls::offer(job, request, offer.saturating_add(1), out)
+        ("the first offer alone", |job, ask, out| match ask.offer {
+            0 => calls::offer(job, ask, out),
+            _ => Answer::of(1),
+        }),
+        ("the next offer", |job, ask, out| {
+            let offer = ask.offer.saturating_add(1);
+            calls::offer(job, Ask { offer, ..ask }, out)
         }),
         (
             "the request that is past",
-            |job, request, offer, out| match calls::offer(job, request, offer, out) {
+            |job, ask, out| match calls::offer(job, ask, out) {
                 Answer { number: 28, .. } => Answer::of(1),
                 answer => answer,
             },
         ),
-        ("41 bytes", |job, request, offer, out| {
+        ("41 bytes", |job, ask, out| {
             let length = out.len().min(OFFER_BYTES);
-            calls::offer(job, request, offer, &mut out[..length])
+            calls::offer(job, ask, &mut out[..length])
         }),
     ]);
 }
@@ -267,12 +269,17 @@ fn wrong_answers_to_long_jobs_are_told() {
         },
         answer => answer,
     };
-    let offer =
-        |job: &[u8], request, offer, out: &mut [u8]| match calls::offer(job, request, offer, out) {
-            Answer { number: 17, .. } => Answer::of(18),
-            answer => answer,
-        };
-    for calls in [Calls { check, ..PROVED }, Calls { offer, ..PROVED }] {
+    let offer: Offer = |job, ask, out| match calls::offer(job, ask, out) {
+        Answer { number: 17, .. } => Answer::of(18),
+        answer => answer,
+    };
+    // Under no reading 25 comes behind 17.
+    let reading: Offer = |job, ask, out| match out.len() {
+        OFFER_BYTES if !is_known(ask.reading) => Answer::of(25),
+        _ => calls::offer(job, ask, out),
+    };
+    let offers = [offer, reading].map(|offer| Calls { offer, ..PROVED });
+    for calls in offers.into_iter().chain([Calls { check, ..PROVED }]) {
         assert!(Sides::new(calls).compare(&over).is_err());
     }
     Sides::new(PROVED).compare(&over).unwrap();
@@ -281,8 +288,8 @@ fn wrong_answers_to_long_jobs_are_told() {
 /// A wrong answer on one kind of job is told with a small job of that kind.
 #[test]
 fn smallest_job_is_told() {
-    let offer = |job: &[u8], request: u32, offer: u32, out: &mut [u8]| {
-        let answer = calls::offer(job, request, offer, out);
+    let offer: Offer = |job, ask, out| {
+        let answer = calls::offer(job, ask, out);
         if answer.number == 0 && out[4] == 1 {
             out[4] = 0;
         }
@@ -317,8 +324,8 @@ fn wrong_expectation_is_told() {
 /// one, though it is met in one of the most bytes.
 #[test]
 fn large_jobs_shrink() {
-    let offer = |job: &[u8], request: u32, offer: u32, out: &mut [u8]| {
-        let answer = calls::offer(job, request, offer, out);
+    let offer: Offer = |job, ask, out| {
+        let answer = calls::offer(job, ask, out);
         if answer.number == 0 {
             out[4] ^= 1;
         }
@@ -338,8 +345,8 @@ const MOST_KILOBYTES: u64 = 8 * 16 * 1024;
 #[test]
 #[ignore = "run by itself, for its memory"]
 fn difference_at_the_most_bytes() {
-    let offer = |job: &[u8], request: u32, offer: u32, out: &mut [u8]| {
-        let answer = calls::offer(job, request, offer, out);
+    let offer: Offer = |job, ask, out| {
+        let answer = calls::offer(job, ask, out);
         if answer.number == 0 && job.len() > 16_000_000 {
             out[39] = 1;
         }
