@@ -15,7 +15,8 @@ use stemhook::limits::OFFER_BYTES;
 const USAGE: &str = "\
 usage:
   bench [--rounds N]                             the tables
-  bench --pair BEFORE AFTER [--rounds N]         two builds of our calls, each a shared object (tools/bench-pair)
+  bench --pair BEFORE AFTER [--rounds N] [--old] two builds of our calls, each a shared object (tools/bench-pair);
+                                                 with --old the first has an offer call without a reading
   bench --loop SIZE [--rounds N]                 our offer call alone, for a profile
   bench --batch proved|rust SIZE CALLS BATCHES   nothing but these calls, for their instructions
 SIZE is small, middle, large or lists; CALLS is `check`, or REQUEST:OFFER with commas between them";
@@ -81,15 +82,18 @@ fn size_of(name: &str) -> Option<&'static Size> {
 /// Offers of a list that stand for all of them.
 const SPREAD: u32 = 16;
 
-/// The call of one side.
-type Offer = fn(&[u8], u32, u32, &mut [u8]) -> u32;
+/// The call of one side: job, reading, request, offer, output.
+type Offer = fn(&[u8], u32, u32, u32, &mut [u8]) -> u32;
 
 /// The sides by the names that a command has for them.
 const SIDES: [(&str, Offer); 2] = [("proved", proved), ("rust", call::offer)];
 
+/// The reading that is timed.
+const READING: u32 = 0;
+
 /// The crate's offer call, its answer as a number.
-fn proved(job: &[u8], request: u32, number: u32, out: &mut [u8]) -> u32 {
-    match stemhook::offer_bytes(job, request, number, out) {
+fn proved(job: &[u8], reading: u32, request: u32, number: u32, out: &mut [u8]) -> u32 {
+    match stemhook::offer_bytes(job, reading, request, number, out) {
         Ok(true) => 0,
         Ok(false) => 1,
         Err(refused) => refused.number(),
@@ -105,34 +109,39 @@ struct Asked {
     lists: Vec<(u32, u32)>,
 }
 
-/// Asks both sides for every offer of some requests, up to one past each
-/// list. This is the warm-up too.
+/// Asks both sides for every offer of some requests under both readings, up to
+/// one past each list. This is the warm-up too.
 fn ask(job: Vec<u8>, most: usize) -> Result<Asked, String> {
     let parts = jobs::layout::parts(&job).ok_or("a job that does not keep the layout")?;
     let count = parts.requests.len();
     let asked = count.min(most);
     let mut lists = Vec::new();
     for request in (0..asked).map(|i| (i * count / asked + i % 5).min(count - 1) as u32) {
-        let mut offer = 0;
-        loop {
-            let mut ours = [0x5a; OFFER_BYTES];
-            let mut theirs = [0x5a; OFFER_BYTES];
-            let answer = proved(&job, request, offer, &mut ours);
-            let other = call::offer(&job, request, offer, &mut theirs);
-            if (answer, ours) != (other, theirs) {
-                return Err(format!(
-                    "request {request}, offer {offer}: {answer} {ours:02x?}, Rust {other} {theirs:02x?}"
-                ));
-            }
-            match answer {
-                0 => offer += 1,
-                1 => break,
-                _ => return Err(format!("refused with {answer}")),
-            }
-        }
-        lists.push((request, offer));
+        offers_of(&job, 1 - READING, request)?;
+        lists.push((request, offers_of(&job, READING, request)?));
     }
     Ok(Asked { job, lists })
+}
+
+/// How many offers a request has, on which both sides agree.
+fn offers_of(job: &[u8], reading: u32, request: u32) -> Result<u32, String> {
+    let mut offer = 0;
+    loop {
+        let mut ours = [0x5a; OFFER_BYTES];
+        let mut theirs = [0x5a; OFFER_BYTES];
+        let answer = proved(job, reading, request, offer, &mut ours);
+        let other = call::offer(job, reading, request, offer, &mut theirs);
+        if (answer, ours) != (other, theirs) {
+            return Err(format!(
+                "reading {reading}, request {request}, offer {offer}: {answer} {ours:02x?}, Rust {other} {theirs:02x?}"
+            ));
+        }
+        match answer {
+            0 => offer += 1,
+            1 => return Ok(offer),
+            _ => return Err(format!("refused with {answer}")),
+        }
+    }
 }
 
 /// Which offers of a list are asked for.
@@ -164,11 +173,13 @@ fn calls(asked: &Asked, which: Which) -> Vec<(u32, u32)> {
     asked.lists.iter().flat_map(of_list).collect()
 }
 
-/// A batch of offer calls; the output is not cleared between them.
+/// A batch of offer calls; the output is not cleared between them. Neither side
+/// knows the reading before the call.
 fn batch(job: &[u8], calls: &[(u32, u32)], out: &mut Output, offer: Offer) {
     for (request, number) in calls {
         let out = black_box(&mut out[..]);
-        black_box(offer(black_box(job), *request, *number, out));
+        let reading = black_box(READING);
+        black_box(offer(black_box(job), reading, *request, *number, out));
     }
 }
 
@@ -405,12 +416,14 @@ fn run() -> Option<Result<(), String>> {
     let mut count = ROUNDS;
     let mut size = None;
     let mut pair = None;
+    let mut old = false;
     let mut args = env::args().skip(1);
     while let Some(arg) = args.next() {
         match arg.as_str() {
             "--rounds" => count = args.next()?.parse().ok().filter(|count| *count > 0)?,
             "--loop" => size = Some(args.next()?),
             "--pair" => pair = Some((args.next()?, args.next()?)),
+            "--old" => old = true,
             "--batch" => {
                 let words: Vec<String> = args.collect();
                 let [side, size, calls, count] = &words[..] else {
@@ -423,7 +436,7 @@ fn run() -> Option<Result<(), String>> {
     }
     match (size, pair) {
         (Some(size), None) => repeat(&size, count),
-        (None, Some((before, after))) => Some(pair::tables(&before, &after, count)),
+        (None, Some((before, after))) => Some(pair::tables((&before, old), &after, count)),
         (None, None) => Some(tables(count)),
         (Some(_), Some(_)) => None,
     }
@@ -505,7 +518,8 @@ mod tests {
         let job = jobs::layout::parts(&asked.job).unwrap();
         for (request, number) in calls(&asked, Which::Last) {
             let mut out = [0; OFFER_BYTES];
-            assert_eq!(proved(&asked.job, request, number, &mut out), 0);
+            let answer = proved(&asked.job, READING, request, number, &mut out);
+            assert_eq!(answer, 0);
             let known = job.requests[request as usize].fallbacks.iter();
             let last = known.rev().find(|family| **family < 64);
             assert_eq!(last, Some(&u16::from_be_bytes([out[0], out[1]])));

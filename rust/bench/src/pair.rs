@@ -8,14 +8,22 @@ use std::{
 };
 
 use crate::{
-    Asked, Output, Which, asked_sizes, calls,
+    Asked, Output, READING, Which, asked_sizes, calls,
     measure::{Measured, rounds},
     ratio, stack, time, which_of,
 };
 use stemhook::limits::OFFER_BYTES;
 
 type Check = unsafe extern "C" fn(*const u8, usize) -> u64;
-type Offer = unsafe extern "C" fn(*const u8, usize, u32, u32, *mut u8, usize) -> u32;
+type Read = unsafe extern "C" fn(*const u8, usize, u32, u32, u32, *mut u8, usize) -> u32;
+type Unread = unsafe extern "C" fn(*const u8, usize, u32, u32, *mut u8, usize) -> u32;
+
+/// The offer call, with a reading or without one.
+#[derive(Copy, Clone)]
+enum Offer {
+    Read(Read),
+    Unread(Unread),
+}
 
 unsafe extern "C" {
     fn dlopen(path: *const c_char, flags: c_int) -> *mut c_void;
@@ -33,7 +41,8 @@ struct Build {
 }
 
 impl Build {
-    fn open(path: &str) -> Result<Self, String> {
+    /// Loads a build; its offer call takes no reading where it is an old one.
+    fn open(path: &str, old: bool) -> Result<Self, String> {
         let name = CString::new(path).map_err(|error| error.to_string())?;
         // SAFETY: a path that ends in zero.
         let library = unsafe { dlopen(name.as_ptr(), RTLD_NOW) };
@@ -48,11 +57,15 @@ impl Build {
                 false => Ok(found),
             }
         };
-        // SAFETY: the two calls as stemhook.h declares them.
+        let (check, offer) = (symbol(c"stemhook_check")?, symbol(c"stemhook_offer")?);
+        // SAFETY: the two calls as the build's stemhook.h declares them.
         Ok(unsafe {
             Self {
-                check: mem::transmute::<*mut c_void, Check>(symbol(c"stemhook_check")?),
-                offer: mem::transmute::<*mut c_void, Offer>(symbol(c"stemhook_offer")?),
+                check: mem::transmute::<*mut c_void, Check>(check),
+                offer: match old {
+                    true => Offer::Unread(mem::transmute::<*mut c_void, Unread>(offer)),
+                    false => Offer::Read(mem::transmute::<*mut c_void, Read>(offer)),
+                },
             }
         })
     }
@@ -63,16 +76,14 @@ impl Build {
     }
 
     fn offer(self, job: &[u8], request: u32, number: u32, out: &mut Output) -> u32 {
+        let (start, length) = (job.as_ptr(), job.len());
+        let (output, size) = (out.as_mut_ptr(), out.len());
         // SAFETY: the call reads the job and writes the output.
         unsafe {
-            (self.offer)(
-                job.as_ptr(),
-                job.len(),
-                request,
-                number,
-                out.as_mut_ptr(),
-                out.len(),
-            )
+            match self.offer {
+                Offer::Read(call) => call(start, length, READING, request, number, output, size),
+                Offer::Unread(call) => call(start, length, request, number, output, size),
+            }
         }
     }
 
@@ -151,9 +162,10 @@ fn row(label: &str, measured: &Measured) {
     );
 }
 
-/// The tables of two shared objects, the earlier build first.
-pub fn tables(before: &str, after: &str, count: usize) -> Result<(), String> {
-    let builds = [Build::open(before)?, Build::open(after)?];
+/// The tables of two shared objects, the earlier build first, and whether that
+/// is an old one.
+pub fn tables((before, old): (&str, bool), after: &str, count: usize) -> Result<(), String> {
+    let builds = [Build::open(before, old)?, Build::open(after, false)?];
     let sizes = asked_sizes()?;
     println!("{count} rounds; median, quarters in brackets.\n");
     println!("| Call | Before | After | After / before |\n|---|---|---|---|");
