@@ -46,6 +46,12 @@ fn random_cmap(r: &mut Random) -> Vec<u8> {
     cmap(&records, size - 4 - 8 * count)
 }
 
+/// A 16.16 number of either sign.
+fn random_angle(r: &mut Random) -> u32 {
+    let angle = r.bits() >> r.below(32);
+    r.pick(&[angle, angle.wrapping_neg()])
+}
+
 fn random_table(r: &mut Random, tag: [u8; 4]) -> Table {
     let mut bytes = match &tag {
         b"cmap" => random_cmap(r),
@@ -60,10 +66,7 @@ fn random_table(r: &mut Random, tag: [u8; 4]) -> Table {
             };
             os2(weight, r.below(11) as u16, selection)
         }
-        b"post" => {
-            let angle = r.bits() >> r.below(32);
-            post(r.pick(&[angle, angle.wrapping_neg()]))
-        }
+        b"post" => post(random_angle(r)),
         b"head" => head(r.bits() as u16 >> r.below(16)),
         b"fvar" => {
             let count = if r.chance(1, 24) {

@@ -67,35 +67,11 @@ pub fn read(job: &[u8], reading: u32) -> Result<Job, Refusal> {
         reading,
         at: 0,
     };
-    let mut faces = Vec::new();
-    for _ in 0..reader.count(FACES)? {
-        faces.push(reader.face()?);
-    }
-    for _ in 0..reader.count(OVERRIDES)? {
-        let number = reader.face_number(faces.len())?;
-        let given = reader.override_entry()?;
-        font::apply_override(&mut faces[usize::from(number)].font, &given);
-    }
-    let mut families = Vec::new();
-    for _ in 0..reader.count(FAMILIES)? {
-        let mut places = Vec::new();
-        for _ in 0..reader.count(PLACES)? {
-            places.push(reader.face_number(faces.len())?);
-        }
-        families.push(places);
-    }
-    let mut requests = Vec::new();
-    for _ in 0..reader.count(REQUESTS)? {
-        requests.push(reader.request()?);
-    }
+    let sections = reader.sections()?;
     if reader.at < job.len() {
         return refuse(27, reader.at);
     }
-    Ok(Job {
-        faces,
-        families,
-        requests,
-    })
+    Ok(sections)
 }
 
 fn refuse<T>(number: u32, position: usize) -> Result<T, Refusal> {
@@ -144,6 +120,36 @@ struct Reader<'a> {
 }
 
 impl<'a> Reader<'a> {
+    /// The four sections; an override is carried out when it is met.
+    fn sections(&mut self) -> Result<Job, Refusal> {
+        let mut faces = Vec::new();
+        for _ in 0..self.count(FACES)? {
+            faces.push(self.face()?);
+        }
+        for _ in 0..self.count(OVERRIDES)? {
+            let number = self.face_number(faces.len())?;
+            let given = self.override_entry()?;
+            font::apply_override(&mut faces[usize::from(number)].font, &given);
+        }
+        let mut families = Vec::new();
+        for _ in 0..self.count(FAMILIES)? {
+            let mut places = Vec::new();
+            for _ in 0..self.count(PLACES)? {
+                places.push(self.face_number(faces.len())?);
+            }
+            families.push(places);
+        }
+        let mut requests = Vec::new();
+        for _ in 0..self.count(REQUESTS)? {
+            requests.push(self.request()?);
+        }
+        Ok(Job {
+            faces,
+            families,
+            requests,
+        })
+    }
+
     /// The next field of `size` bytes, at most 4.
     fn field(&mut self, size: usize) -> Result<Field, Refusal> {
         let position = self.at;

@@ -108,14 +108,7 @@ fn read(job: &[u8], reading: u32, asked: usize) -> Result<Job<'_>, Refusal> {
         reading,
         at: 0,
     };
-    // The original wants a source for each font; this one is never loaded.
-    let nowhere: Arc<Path> = Arc::from(Path::new(""));
-    let source = SourceInfo::new(SourceId::new(), SourceKind::Path(nowhere));
-    let count = reader.count(FACES)?;
-    let mut faces = Vec::with_capacity(usize::from(count));
-    for _ in 0..count {
-        faces.push(reader.face(&source)?);
-    }
+    let mut faces = reader.faces()?;
     let mut pairs = Vec::new();
     for _ in 0..reader.count(OVERRIDES)? {
         reader.apply_override(&mut faces, &mut pairs)?;
@@ -243,6 +236,18 @@ impl<'a> Reader<'a> {
             return read(self).map(Some);
         }
         self.spare::<4>().map(|()| None)
+    }
+
+    fn faces(&mut self) -> Result<Vec<Face<'a>>, Refusal> {
+        // The original wants a source for each font; this one is never loaded.
+        let nowhere: Arc<Path> = Arc::from(Path::new(""));
+        let source = SourceInfo::new(SourceId::new(), SourceKind::Path(nowhere));
+        let count = self.count(FACES)?;
+        let mut faces = Vec::with_capacity(usize::from(count));
+        for _ in 0..count {
+            faces.push(self.face(&source)?);
+        }
+        Ok(faces)
     }
 
     fn face(&mut self, source: &SourceInfo) -> Result<Face<'a>, Refusal> {

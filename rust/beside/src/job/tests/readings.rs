@@ -13,6 +13,17 @@ fn slant(out: &mut [u8]) -> Option<&mut [u8]> {
     Some(value)
 }
 
+/// The offer call, with another value of `slnt` where an offer sets it.
+fn changed(job: &[u8], ask: Ask, out: &mut [u8], change: fn(Ask, &mut [u8])) -> Answer {
+    let answer = calls::offer(job, ask, out);
+    if answer.number == 0
+        && let Some(value) = slant(out)
+    {
+        change(ask, value);
+    }
+    answer
+}
+
 /// The opposite of a single by its bytes.
 fn turn(value: &mut [u8]) {
     if value[1..] == [0; 3] && value[0] & 0x7f == 0 {
@@ -49,14 +60,11 @@ fn wrong_readings_are_told() {
         }),
         ("angles as they stand", |job, ask, out| {
             let reading = if ask.reading == 1 { 0 } else { ask.reading };
-            let answer = calls::offer(job, Ask { reading, ..ask }, out);
-            if answer.number == 0
-                && ask.reading == 1
-                && let Some(value) = slant(out)
-            {
-                turn(value);
+            let old = Ask { reading, ..ask };
+            match ask.reading {
+                1 => changed(job, old, out, |_, value| turn(value)),
+                _ => calls::offer(job, old, out),
             }
-            answer
         }),
     ];
     for (name, offer) in wrong {
@@ -71,35 +79,21 @@ fn wrong_readings_are_told() {
 fn wrong_turns_are_told() {
     let wrong: [(&str, Offer); 4] = [
         ("slnt as it is asked for", |job, ask, out| {
-            let answer = calls::offer(job, ask, out);
-            if answer.number == 0
-                && ask.reading == 1
-                && let Some(value) = slant(out)
-            {
-                value[0] ^= 0x80;
-            }
-            answer
+            changed(job, ask, out, |ask, value| {
+                value[0] ^= (ask.reading as u8) << 7;
+            })
         }),
         ("slnt turned under reading 0", |job, ask, out| {
-            let answer = calls::offer(job, ask, out);
-            if answer.number == 0
-                && ask.reading == 0
-                && let Some(value) = slant(out)
-            {
-                value[0] ^= 0x80;
-            }
-            answer
+            changed(job, ask, out, |ask, value| {
+                value[0] ^= (1 - ask.reading as u8) << 7;
+            })
         }),
         ("minus zero", |job, ask, out| {
-            let answer = calls::offer(job, ask, out);
-            if answer.number == 0
-                && ask.reading == 1
-                && let Some(value) = slant(out)
-                && *value == [0; 4]
-            {
-                value[0] = 0x80;
-            }
-            answer
+            changed(job, ask, out, |ask, value| {
+                if ask.reading == 1 && *value == [0; 4] {
+                    value[0] = 0x80;
+                }
+            })
         }),
         ("the skew", |job, ask, out| {
             let answer = calls::offer(job, ask, out);
