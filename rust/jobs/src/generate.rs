@@ -152,7 +152,7 @@ impl<'a> Fonts<'a> {
             },
             pools,
             bare,
-            leaning: r.chance(1, 6),
+            leaning: r.chance(1, 4),
             held: r.pick(&[1, 3, 4, 4]),
         }
     }

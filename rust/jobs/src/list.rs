@@ -17,7 +17,7 @@ mod readings;
 mod stages;
 
 /// How many random jobs the stored list has.
-pub const RANDOM_JOBS: usize = 250;
+pub const RANDOM_JOBS: usize = 225;
 
 /// A job's bytes and what is known of it.
 pub struct Case {

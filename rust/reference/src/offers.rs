@@ -540,7 +540,7 @@ mod tests {
         assert!(counts.asked.fonts > counts.faces);
         // The readings are not the same thing.
         let Differing { faces, settings } = counts.differing;
-        assert!(faces > 300 && settings > 300, "{faces} {settings}");
+        assert!(faces > 200 && settings > 200, "{faces} {settings}");
     }
 
     #[test]

@@ -12,6 +12,7 @@ use crate::{
 
 pub fn jobs(list: &mut List) {
     both_sides(list);
+    two_faces(list);
     every_angle(list);
     beside_others(list);
     overridden_angles(list);
@@ -43,6 +44,11 @@ fn leaning(angle: u32) -> Face {
     held(&tables(OBLIQUE, angle))
 }
 
+/// An oblique without `post`.
+fn unstated() -> Face {
+    held(&[(*b"OS/2", os2(400, 5, OBLIQUE)), (*b"cmap", plain_cmap())])
+}
+
 /// All families are asked for each style.
 fn job(faces: Vec<Face>, families: Vec<Vec<u16>>, styles: &[Style]) -> Job {
     let count = families.len() as u16;
@@ -61,6 +67,31 @@ fn both_sides(list: &mut List) {
     let families = vec![vec![0, 1], vec![1, 0], vec![0], vec![1]];
     let job = job(faces, families, &ASKED);
     list.accepted("readings, both sides", &job);
+}
+
+/// Two faces of which one leans at least, in both orders.
+fn two_faces(list: &mut List) {
+    let leaning = [-20, -12, 12, 20].map(|angle| {
+        let label = format!("{angle} degrees");
+        (label, leaning(degrees(angle)))
+    });
+    let others = [
+        ("0 degrees", held(&tables(OBLIQUE, 0))),
+        ("unstated", unstated()),
+        ("italic", held(&tables(ITALIC, degrees(-12)))),
+        ("upright", held(&tables(NORMAL, degrees(-12)))),
+        ("slnt", upright(&[*b"slnt"])),
+    ];
+    let others = others.map(|(label, face)| (label.to_string(), face));
+    let all = [leaning.to_vec(), others.to_vec()].concat();
+    for (i, (label, face)) in leaning.iter().enumerate() {
+        for (other_label, other) in &all[i + 1..] {
+            let faces = vec![face.clone(), other.clone()];
+            let families = vec![vec![0, 1], vec![1, 0]];
+            let job = job(faces, families, &ASKED[..7]);
+            list.accepted(format!("readings, {label} and {other_label}"), &job);
+        }
+    }
 }
 
 /// Angles at the ends and around zero: each beside the opposite number, and
@@ -97,9 +128,8 @@ fn every_angle(list: &mut List) {
 /// that states none and one of 0 degrees: families of two to five of them.
 fn beside_others(list: &mut List) {
     let stated = [-20, -14, -12, 0, 12, 14, 20].map(|angle| leaning(degrees(angle)));
-    let unstated = [(*b"OS/2", os2(400, 5, OBLIQUE)), (*b"cmap", plain_cmap())];
     let mut faces = stated.to_vec();
-    faces.push(held(&unstated));
+    faces.push(unstated());
     faces.push(held(&tables(ITALIC, degrees(-12))));
     faces.push(held(&tables(NORMAL, degrees(-12))));
     let mut r = Random::new(4);
