@@ -81,7 +81,7 @@ impl Counts {
 
     pub fn text(&self) -> String {
         format!(
-            "fonts {} read {} from collections {} with axes {} refused{}\nread under reading 1 {} of them otherwise than under reading 0 {}\n{}",
+            "fonts {} read {} from collections {} with axes {} refused{}\nreading 1: fonts read {} that reading 0 reads otherwise {}\n{}",
             self.fonts,
             self.read,
             self.collected,
