@@ -19,12 +19,12 @@ const CMAP: u32 = 0x636D_6170;
 
 const FVAR: u32 = 0x6676_6172;
 
-// The tag of an axis: wght, wdth, ital, and others.
+// The tag of an axis: wght, wdth, slnt, and others.
 fn tag(number: u8) -> u32 {
     match number {
         0 => 0x7767_6874,
         1 => 0x7764_7468,
-        2 => 0x6974_616C,
+        2 => 0x736C_6E74,
         _ => 0x4158_0000 + number as u32,
     }
 }

@@ -51,7 +51,7 @@ fn font(weight: u16, class: usize, axes: u8, gap: usize) -> Vec<u8> {
         tag: match number {
             0 => *b"wght",
             1 => *b"wdth",
-            2 => *b"ital",
+            2 => *b"slnt",
             _ => [b'A', b'X', 0, number],
         },
         min: 0,
