@@ -37,13 +37,29 @@ extern "C" {
 #define STEMHOOK_FAMILY_FACES 64
 #define STEMHOOK_REQUESTS 256
 
+/* The readings: which way the slant numbers of fonts count.
+ *
+ * A stem like / leans right, as italics do in Latin script. A font counts that below zero, in its post table and on its
+ * axis slnt; a request, an override and the skew count it above zero. STEMHOOK_READING_OPENTYPE turns a font's number
+ * where it meets a request's: the post angle when the font is read, the value of slnt when it is set. So a request for
+ * oblique 12 gets the face that leans right, and sets slnt to -12. STEMHOOK_READING_AS_STORED copies the numbers: the
+ * same face then ranks as one that leans left, and slnt is set to 12.
+ *
+ * Take STEMHOOK_READING_OPENTYPE for new work, and STEMHOOK_READING_AS_STORED for what has to come out as before, for a
+ * comparison with fontique, or where overrides set the angles of the fonts and the program turns slnt itself. The
+ * angles of requests and overrides, the numbers of axes and the skew are the same under both.
+ */
+#define STEMHOOK_READING_AS_STORED 0
+#define STEMHOOK_READING_OPENTYPE 1
+
 /* Answers of stemhook_offer that are no refusal. */
 #define STEMHOOK_OFFERED 0   /* the 40 bytes are written */
 #define STEMHOOK_PAST_LIST 1 /* the request has no offer of that number */
 
-/* Refusals. The first that is met counts, reading from left to right; for one field, in this order, save that 31 comes
- * between 21 and 22. Of a collection, the lack of its 12 header bytes (21) comes first, then its font number (18, 30),
- * then its offsets or the font's offset past the file (21), then the font (21, 31, 22, 23).
+/* Refusals. The first that is met counts: 16 and 17, then 25 for an unknown reading, then what is met in the job, from
+ * left to right, then 28. For one field they come in this order, save that 31 comes between 21 and 22. Of a collection,
+ * the lack of its 12 header bytes (21) comes first, then its font number (18, 30), then its offsets or the font's offset
+ * past the file (21), then the font (21, 31, 22, 23).
  */
 #define STEMHOOK_REFUSED_OUTPUT_LENGTH 16
 #define STEMHOOK_REFUSED_JOB_LENGTH 17
@@ -85,7 +101,7 @@ static inline const char *stemhook_meaning(uint32_t refusal)
     case STEMHOOK_REFUSED_NO_SUCH_FACE:
         return "a face number is not in the job";
     case STEMHOOK_REFUSED_UNKNOWN_OR_SPARE:
-        return "a mask or style kind is unknown, or a spare field is not zero";
+        return "the reading, a mask or a style kind is unknown, or a spare field is not zero";
     case STEMHOOK_REFUSED_NUMBER_OUTSIDE:
         return "a number is not finite, or a width ratio not from 0 to 16";
     case STEMHOOK_REFUSED_BYTES_LEFT:
@@ -144,11 +160,14 @@ uint64_t stemhook_check(const uint8_t *job, size_t length);
  * STEMHOOK_PAST_LIST or a refusal (16 to 28, 30 or 31; 29 is proved never to be given). It reads the whole job each
  * time.
  *
+ * `reading` is STEMHOOK_READING_AS_STORED or STEMHOOK_READING_OPENTYPE. Any other is refused with 25, whatever the job
+ * is; only 16 and 17 come before that.
+ *
  * `job` points at `length` bytes and `out` at `out_length` bytes; neither is NULL, and they do not overlap. An
  * `out_length` other than 40 is refused.
  */
-uint32_t stemhook_offer(const uint8_t *job, size_t length, uint32_t request, uint32_t offer, uint8_t *out,
-                        size_t out_length);
+uint32_t stemhook_offer(const uint8_t *job, size_t length, uint32_t reading, uint32_t request, uint32_t offer,
+                        uint8_t *out, size_t out_length);
 
 #ifdef __cplusplus
 }

@@ -4,6 +4,7 @@ use crate::{
     ffi,
     limits::OFFER_BYTES,
     offer::Offer,
+    reading::Reading,
     refusal::{Refusal, Refused},
 };
 
@@ -30,44 +31,67 @@ pub fn check(job: &[u8]) -> Result<(), Refused> {
 
 /// The offer of a number for a request, or none where it lies past the list.
 ///
+/// The reading is a [`Reading`] or its number. Another number is refused with
+/// [`UnknownOrSpare`](Refusal::UnknownOrSpare), before anything of the job and
+/// without a position.
+///
 /// Each call reads the whole job. [`Job`](crate::Job) holds one that is
 /// accepted, and [`Offers`](crate::Offers) goes over a request's list.
 ///
 /// ```
-/// use stemhook::{Refusal, offer};
+/// use stemhook::{Reading, Refusal, offer};
 ///
-/// let refused = offer(&[0; 8], 0, 0).unwrap_err();
+/// let refused = offer(&[0; 8], Reading::OpenType, 0, 0).unwrap_err();
 /// assert_eq!(refused.refusal(), Refusal::NoSuchRequest);
+///
+/// let refused = offer(&[0; 8], 2_u32, 0, 0).unwrap_err();
+/// assert_eq!(refused.refusal(), Refusal::UnknownOrSpare);
+/// assert_eq!(refused.position(), None);
 /// ```
-pub fn offer(job: &[u8], request: u32, number: u32) -> Result<Option<Offer>, Refused> {
+pub fn offer(
+    job: &[u8],
+    reading: impl Into<u32>,
+    request: u32,
+    number: u32,
+) -> Result<Option<Offer>, Refused> {
     let mut out = [0; OFFER_BYTES];
-    let written = offer_bytes(job, request, number, &mut out)?;
+    let written = offer_bytes(job, reading, request, number, &mut out)?;
     Ok(written.then(|| Offer::from_bytes(&out)))
 }
 
 /// The offer call as it is exported: writes the 40 bytes of an offer and
 /// answers true, or answers false where it lies past the list. Unless it
-/// answers true, it writes nothing.
+/// answers true, it writes nothing. The reading is as in [`offer`].
 ///
 /// ```
-/// use stemhook::{Refusal, offer_bytes};
+/// use stemhook::{Reading, Refusal, offer_bytes};
 ///
 /// let mut out = [7; 39];
-/// let refused = offer_bytes(&[0; 8], 0, 0, &mut out).unwrap_err();
+/// let refused = offer_bytes(&[0; 8], Reading::AsStored, 0, 0, &mut out).unwrap_err();
 /// assert_eq!(refused.refusal(), Refusal::OutputLength);
 /// assert_eq!(out, [7; 39]);
 /// ```
-pub fn offer_bytes(job: &[u8], request: u32, number: u32, out: &mut [u8]) -> Result<bool, Refused> {
-    match ffi::offer(job, request, number, out) {
+pub fn offer_bytes(
+    job: &[u8],
+    reading: impl Into<u32>,
+    request: u32,
+    number: u32,
+    out: &mut [u8],
+) -> Result<bool, Refused> {
+    let reading = reading.into();
+    match ffi::offer(job, reading, request, number, out) {
         0 => Ok(true),
         1 => Ok(false),
-        refusal => Err(located(Refusal::from_number(refusal), job)),
+        refusal => Err(located(Refusal::from_number(refusal), job, reading)),
     }
 }
 
 /// A refusal of the offer call, with the position where the check call gives
-/// the same refusal.
-fn located(refusal: Refusal, job: &[u8]) -> Refused {
+/// the same refusal. Under an unknown reading nothing of the job is met.
+fn located(refusal: Refusal, job: &[u8], reading: u32) -> Refused {
+    if Reading::try_from(reading).is_err() {
+        return Refused::without_position(refusal);
+    }
     match check(job) {
         Err(refused) if refused.refusal() == refusal => refused,
         _ => Refused::without_position(refusal),

@@ -8,6 +8,7 @@ mod exported {
         pub fn stemhook_offer(
             job: *const u8,
             length: usize,
+            reading: u32,
             request: u32,
             offer: u32,
             out: *mut u8,
@@ -24,7 +25,7 @@ pub fn check(job: &[u8]) -> u64 {
 }
 
 /// The offer call: 0 and the 40 bytes written, 1 past the list, or a refusal.
-pub fn offer(job: &[u8], request: u32, offer: u32, out: &mut [u8]) -> u32 {
+pub fn offer(job: &[u8], reading: u32, request: u32, offer: u32, out: &mut [u8]) -> u32 {
     // SAFETY: each pointer and length are those of one slice. The call reads
     // the first and writes the second, within their lengths and before it
     // returns; the second is lent for writing, so the two do not overlap. Any
@@ -33,6 +34,7 @@ pub fn offer(job: &[u8], request: u32, offer: u32, out: &mut [u8]) -> u32 {
         exported::stemhook_offer(
             job.as_ptr(),
             job.len(),
+            reading,
             request,
             offer,
             out.as_mut_ptr(),

@@ -10,10 +10,13 @@ use crate::{
     looked_at::Subtables,
     offer::Offer,
     offers::Offers,
+    reading::Reading,
     refusal::{Refusal, Refused},
 };
 
-/// A job that the check call accepted. It owns its bytes or borrows them.
+/// A job that the check call accepted, and the reading under which its offers
+/// are asked for: [`Reading::AsStored`], unless [`with_reading`](Self::with_reading)
+/// says another. It owns its bytes or borrows them.
 ///
 /// Most jobs come from a [`JobBuilder`](crate::JobBuilder); this reads one
 /// that is stored.
@@ -33,6 +36,7 @@ use crate::{
 pub struct Job<'a> {
     bytes: Cow<'a, [u8]>,
     layout: Layout,
+    reading: Reading,
     /// What the bytes do not say of each face. None for a job that is stored.
     notes: Vec<FaceNote>,
 }
@@ -66,8 +70,45 @@ impl<'a> Job<'a> {
         Ok(Self {
             bytes,
             layout,
+            reading: Reading::default(),
             notes,
         })
+    }
+
+    /// The same job under a reading: [`offer`](Self::offer) and
+    /// [`offers`](Self::offers) answer by it. The bytes stay as they are.
+    ///
+    /// ```
+    /// # mod fonts { include!(concat!(env!("CARGO_MANIFEST_DIR"), "/tests/common/fonts.rs")); }
+    /// # let bytes = fonts::variable(&[(*b"slnt", -10, 0, 0)]);
+    /// use stemhook::{Attributes, JobBuilder, Reading, Request, Style, Tag};
+    ///
+    /// let mut builder = JobBuilder::new();
+    /// let face = builder.face(&bytes)?; // upright, and its axis `slnt` leans right
+    /// let family = builder.family(&[face])?;
+    /// let request = builder.request(&Request {
+    ///     attributes: Attributes { style: Style::Italic, ..Attributes::default() },
+    ///     families: vec![family],
+    ///     ..Request::default()
+    /// })?;
+    /// let job = builder.build()?;
+    /// assert_eq!(job.reading(), Reading::AsStored);
+    /// let offer = job.offer(request, 0)?.expect("there is one");
+    /// assert_eq!(offer.settings.value(Tag::SLNT), Some(14.0));
+    ///
+    /// let job = job.with_reading(Reading::OpenType);
+    /// let offer = job.offer(request, 0)?.expect("there is one");
+    /// assert_eq!(offer.settings.value(Tag::SLNT), Some(-14.0));
+    /// # Ok::<(), Box<dyn std::error::Error>>(())
+    /// ```
+    #[must_use]
+    pub fn with_reading(self, reading: Reading) -> Self {
+        Self { reading, ..self }
+    }
+
+    /// The reading under which the job is asked.
+    pub const fn reading(&self) -> Reading {
+        self.reading
     }
 
     /// The job's requests.
@@ -75,8 +116,9 @@ impl<'a> Job<'a> {
         (0..self.layout.requests).map(|number| RequestId::new(number.into()))
     }
 
-    /// The job's bytes. Where they hold small font files, charmap offsets that
-    /// are read by [`offer`](crate::offer()) from them count in those.
+    /// The job's bytes, in which the reading has no part. Where they hold small
+    /// font files, charmap offsets that are read by [`offer`](crate::offer())
+    /// from them count in those.
     pub fn as_bytes(&self) -> &[u8] {
         &self.bytes
     }
@@ -89,7 +131,7 @@ impl<'a> Job<'a> {
     /// The offer of a number for a request, or none where it lies past the
     /// list. The one refusal is [`NoSuchRequest`](crate::Refusal::NoSuchRequest).
     pub fn offer(&self, request: RequestId, number: u32) -> Result<Option<Offer>, Refused> {
-        let offer = offer(&self.bytes, request.number(), number)?;
+        let offer = offer(&self.bytes, self.reading, request.number(), number)?;
         Ok(offer.map(|offer| self.in_whole(offer)))
     }
 
@@ -165,6 +207,7 @@ impl fmt::Debug for Job<'_> {
         f.debug_struct("Job")
             .field("length", &self.bytes.len())
             .field("requests", &self.layout.requests)
+            .field("reading", &self.reading)
             .finish()
     }
 }

@@ -11,6 +11,9 @@
 //!   [`face_count`] says how many a file has.
 //! - [`Job::offers`] goes over the [`Offer`]s for a request, and [`Job::font`]
 //!   gives the way back from an offer to its font.
+//! - [`Reading`] says which way the slant numbers of fonts count, and
+//!   [`Job::with_reading`] sets it: under [`Reading::OpenType`] a request for an
+//!   oblique that leans right gets a face that does.
 //! - [`check`], [`offer`] and [`offer_bytes`] are the picker's calls themselves.
 //!   They take any bytes and any numbers and answer a value or a [`Refused`].
 //!
@@ -59,6 +62,7 @@ pub mod limits;
 mod looked_at;
 mod offer;
 mod offers;
+mod reading;
 mod refusal;
 mod tables;
 mod tag;
@@ -73,6 +77,7 @@ pub use ids::{FaceId, FamilyId, RequestId};
 pub use job::Job;
 pub use offer::{CharmapIndex, Offer, Setting, Settings};
 pub use offers::Offers;
+pub use reading::{Reading, UnknownReading};
 pub use refusal::{Refusal, Refused};
 pub use tables::face_count;
 pub use tag::{ParseTagError, Tag};

@@ -34,7 +34,8 @@ pub enum Refusal {
     TooManyAxes,
     /// 24: a face number is not in the job.
     NoSuchFace,
-    /// 25: a mask or a style kind is unknown, or a spare field is not zero.
+    /// 25: a mask or a style kind is unknown, or a spare field is not zero. Of a
+    /// call also: the reading is unknown, which comes before anything of the job.
     UnknownOrSpare,
     /// 26: a number is not finite, or a width ratio is not from 0 to 16.
     NumberOutside,
@@ -124,7 +125,9 @@ impl Refusal {
             Self::NoCharmap => "the font has no qualifying cmap record",
             Self::TooManyAxes => "the font has over 16 axes",
             Self::NoSuchFace => "a face number is not in the job",
-            Self::UnknownOrSpare => "a mask or style kind is unknown, or a spare field is not zero",
+            Self::UnknownOrSpare => {
+                "the reading, a mask or a style kind is unknown, or a spare field is not zero"
+            }
             Self::NumberOutside => "a number is not finite, or a width ratio not from 0 to 16",
             Self::BytesLeft => "bytes are left after the job's end",
             Self::NoSuchRequest => "the request is not in the job",
@@ -204,7 +207,8 @@ impl Refused {
     }
 
     /// The position of the field in the job, counted in bytes from 0. None for
-    /// 16, 17, 28 and 29, which are not for a field.
+    /// 16, 17, 28 and 29, which are not for a field, and for 25 where it is for
+    /// the reading.
     ///
     /// A font's position is that of its length field; that of
     /// [`Refusal::NoSuchFont`] is the font number, and that of
