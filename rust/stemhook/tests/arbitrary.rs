@@ -3,7 +3,7 @@
 mod common;
 
 use common::Random;
-use stemhook::{Job, Offer, Refusal, check, offer, offer_bytes};
+use stemhook::{Job, Offer, Reading, Refusal, check, offer, offer_bytes};
 
 /// All calls on a job: they agree, and write only with an offer.
 fn try_all(job: &[u8], random: &mut Random) -> bool {
@@ -17,21 +17,28 @@ fn try_all(job: &[u8], random: &mut Random) -> bool {
     for _ in 0..3 {
         let request = random.of(&[0, 0, 1, 2, random.0 as u32, u32::MAX]);
         let number = random.of(&[0, 1, 2, random.0 as u32, u32::MAX]);
+        let reading = random.of(&[0, 0, 1, 1, 2, random.0 as u32, u32::MAX]);
         let mut out = [0x77; 40];
-        let answer = offer_bytes(job, request, number, &mut out);
+        let answer = offer_bytes(job, reading, request, number, &mut out);
         assert_eq!(answer == Ok(true), out != [0x77; 40]);
-        match (checked, answer) {
-            (Err(refused), answer) => assert_eq!(answer, Err(refused)),
-            (Ok(()), Err(refused)) => assert_eq!(refused.refusal(), Refusal::NoSuchRequest),
-            (Ok(()), Ok(_)) => {}
+        match (Reading::try_from(reading), checked, answer) {
+            (Err(_), _, answer) => {
+                let refused = answer.unwrap_err();
+                assert_eq!(refused.refusal(), Refusal::UnknownOrSpare);
+                assert_eq!(refused.position(), None);
+            }
+            (Ok(_), Err(refused), answer) => assert_eq!(answer, Err(refused)),
+            (Ok(_), Ok(()), Err(refused)) => assert_eq!(refused.refusal(), Refusal::NoSuchRequest),
+            (Ok(_), Ok(()), Ok(_)) => {}
         }
-        let by_value = offer(job, request, number);
+        let by_value = offer(job, reading, request, number);
         assert_eq!(by_value.map(|found| found.is_some()), answer);
     }
     match Job::new(job) {
         Err(refused) => assert_eq!(checked, Err(refused)),
         Ok(job) => {
             assert_eq!(checked, Ok(()));
+            let job = job.with_reading(random.of(&common::READINGS));
             for request in job.requests().take(3) {
                 let offers = job.offers(request).expect("it is in the job");
                 for offer in offers {

@@ -1,7 +1,7 @@
 //! The C header: that it says what this crate says. That C programs built with
 //! it answer as they should is for the repository's script `tools/test-c`.
 
-use stemhook::{Offer, Refusal, Tag, limits};
+use stemhook::{Offer, Reading, Refusal, Tag, limits};
 
 const HEADER: &str = include_str!("../include/stemhook.h");
 
@@ -78,6 +78,18 @@ fn the_header_has_the_meanings_of_this_crate() {
         .into_iter()
         .map(|(name, meaning)| (name.to_owned(), meaning))
         .collect();
+    assert_eq!(listed, expected);
+}
+
+#[test]
+fn the_header_has_the_readings_of_this_crate() {
+    let listed: Vec<(String, Option<Reading>)> = defined()
+        .into_iter()
+        .filter_map(|(name, number)| Some((name.strip_prefix("READING_")?, number)))
+        .map(|(name, number)| (name.replace('_', ""), Reading::try_from(number).ok()))
+        .collect();
+    let expected = [Reading::AsStored, Reading::OpenType]
+        .map(|reading| (format!("{reading:?}").to_ascii_uppercase(), Some(reading)));
     assert_eq!(listed, expected);
 }
 

@@ -2,7 +2,7 @@
 
 mod common;
 
-use stemhook::{Job, Refusal, RequestId, check, offer, offer_bytes};
+use stemhook::{Job, Offer, Reading, Refusal, RequestId, check, offer, offer_bytes};
 
 fn list() -> Vec<u8> {
     common::read("crates/offer_cases/stdin")
@@ -29,29 +29,74 @@ fn every_stored_job_is_answered_as_stored() {
     assert_eq!(rest, "", "answers are left");
 }
 
+/// Under the second reading the answers are those of the plain reading, and not
+/// all are those of the first.
+#[test]
+fn every_stored_job_is_answered_as_plain_has_it_under_opentype() {
+    let list = list();
+    let mut turned = 0;
+    for (number, bytes) in common::jobs(&list).into_iter().enumerate() {
+        let [stored, opentype] = common::READINGS.map(|reading| common::text(bytes, reading));
+        assert_eq!(opentype, plain_text(bytes), "job {number}");
+        turned += usize::from(stored != opentype);
+    }
+    assert!(turned > 100, "only {turned} jobs have other offers");
+}
+
+/// What the plain reading says of a job under the second reading.
+fn plain_text(bytes: &[u8]) -> String {
+    let (refusal, position) = plain::check(bytes);
+    if refusal != 0 {
+        return format!("refused {refusal} {position}\n");
+    }
+    let mut lines = String::new();
+    let mut requests = 0;
+    let mut out = [0; 40];
+    while plain::offer(bytes, 1, requests, u32::MAX, &mut out) == 1 {
+        let mut number = 0;
+        while plain::offer(bytes, 1, requests, number, &mut out) == 0 {
+            let line = common::line(&Offer::from_bytes(&out), false);
+            lines += &format!("{requests} {line}");
+            number += 1;
+        }
+        requests += 1;
+    }
+    format!("requests {requests}\n{lines}")
+}
+
 #[test]
 fn the_iterator_gives_the_offers_by_number() {
     let list = list();
     let mut offered = 0;
     for bytes in common::jobs(&list) {
         let Ok(job) = Job::new(bytes) else { continue };
-        for request in job.requests() {
-            let mut offers = job.offers(request).unwrap();
-            let mut number = 0;
-            while let Some(by_number) = offer(bytes, request.number(), number).unwrap() {
-                assert_eq!(offers.next(), Some(Ok(by_number)));
-                number += 1;
-            }
-            // Past the list for good.
-            assert_eq!(offers.next(), None);
-            assert_eq!(offers.next(), None);
-            assert_eq!(offers.nth(3), None);
-            assert_eq!(job.offer(request, number), Ok(None));
-            assert_eq!(job.offer(request, u32::MAX), Ok(None));
-            offered += number;
+        for reading in common::READINGS {
+            let job = job.clone().with_reading(reading);
+            offered += job
+                .requests()
+                .map(|request| iterated(&job, request))
+                .sum::<u32>();
         }
     }
-    assert!(offered > 1000, "only {offered} offers");
+    assert!(offered > 2000, "only {offered} offers");
+}
+
+/// Goes over a request's offers beside those by number; how many there are.
+fn iterated(job: &Job<'_>, request: RequestId) -> u32 {
+    let (bytes, reading) = (job.as_bytes(), job.reading());
+    let mut offers = job.offers(request).unwrap();
+    let mut number = 0;
+    while let Some(by_number) = offer(bytes, reading, request.number(), number).unwrap() {
+        assert_eq!(offers.next(), Some(Ok(by_number)));
+        number += 1;
+    }
+    // Past the list for good.
+    assert_eq!(offers.next(), None);
+    assert_eq!(offers.next(), None);
+    assert_eq!(offers.nth(3), None);
+    assert_eq!(job.offer(request, number), Ok(None));
+    assert_eq!(job.offer(request, u32::MAX), Ok(None));
+    number
 }
 
 /// The plain steps of an iterator, without its own `nth`.
@@ -86,7 +131,8 @@ fn the_request_count_is_the_library_s() {
     let list = list();
     for bytes in common::jobs(&list) {
         let Ok(job) = Job::new(bytes) else { continue };
-        let found = (0..).find(|request| offer(bytes, *request, u32::MAX).is_err());
+        let asked = |request: &u32| offer(bytes, Reading::OpenType, *request, u32::MAX);
+        let found = (0..).find(|request| asked(request).is_err());
         let count = job.requests().len() as u32;
         assert_eq!(Some(count), found);
         let refused = job.offers(RequestId::new(count)).unwrap_err();
@@ -103,8 +149,10 @@ fn both_calls_refuse_alike_and_write_nothing() {
     for bytes in common::jobs(&list) {
         let Err(refused) = check(bytes) else { continue };
         let mut out = [0xa5; 40];
-        assert_eq!(offer_bytes(bytes, 0, 0, &mut out), Err(refused));
-        assert_eq!(out, [0xa5; 40]);
+        for reading in common::READINGS {
+            assert_eq!(offer_bytes(bytes, reading, 0, 0, &mut out), Err(refused));
+            assert_eq!(out, [0xa5; 40]);
+        }
         assert_eq!(Job::new(bytes), Err(refused));
         refusals += 1;
     }

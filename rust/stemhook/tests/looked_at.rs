@@ -100,7 +100,10 @@ fn compare_refusal(font: (&[u8], u16), error: &BuildError, name: &str, counts: &
         panic!("{name}: {error}");
     };
     let refused = refusal.number();
-    assert_eq!(plain::font::read(file, number), Err(refused), "{name}");
+    for reading in common::READINGS {
+        let read = plain::font::read(file, reading.number(), number);
+        assert_eq!(read, Err(refused), "{name}");
+    }
     assert_ne!(fault, FontFault::Other, "{name}");
     let in_job = number == 0 || file.starts_with(b"ttcf");
     if in_job && file.len() + 15 <= limits::JOB_BYTES {
@@ -111,35 +114,49 @@ fn compare_refusal(font: (&[u8], u16), error: &BuildError, name: &str, counts: &
     counts.refused[at.expect(name)] += 1;
 }
 
-/// The refusal, or the offers, of a font beside those of the whole file.
+/// The refusal, or the offers under both readings, of a font beside those of
+/// the whole file.
 fn compare(file: &[u8], number: u16, name: &str, r: &mut Random, counts: &mut Counts) {
     let requests = requests(r);
     let font = FontFile::new(file).number(number);
-    let small = match job(font, &requests) {
+    let mut small = match job(font, &requests) {
         Ok(small) => small,
         Err(error) => return compare_refusal((file, number), &error, name, counts),
     };
-    let read = plain::font::read(second_font(small.as_bytes()), 0);
-    let mut read = read.expect("the picker took it");
-    let whole_read = plain::font::read(file, number).expect("the picker took it");
-    let offers_of_small = offers(&small);
-    read.charmap.offset = whole_read.charmap.offset;
-    assert_eq!(read, whole_read, "{name}");
-    for offer in offers_of_small.iter().filter(|o| o.family.number() == 0) {
-        let offset = offer.charmap.offset;
-        assert_eq!(offset, whole_read.charmap.offset, "{name}");
+    let mut whole = job(font.whole(), &requests).ok();
+    match &whole {
+        Some(whole) => assert_eq!(second_font(whole.as_bytes()), file, "{name}"),
+        None => assert!(file.len() + 1000 > limits::JOB_BYTES, "{name}"),
     }
-    if let Ok(whole) = job(font.whole(), &requests) {
-        assert_eq!(second_font(whole.as_bytes()), file, "{name}");
-        assert_eq!(offers_of_small, offers(&whole), "{name}");
-    } else {
-        assert!(file.len() + 1000 > limits::JOB_BYTES, "{name}");
+    for reading in common::READINGS {
+        small = small.with_reading(reading);
+        whole = whole.map(|whole| whole.with_reading(reading));
+        let offset = compare_reading((file, number), &small, name);
+        let offers_of_small = offers(&small);
+        for offer in offers_of_small.iter().filter(|o| o.family.number() == 0) {
+            assert_eq!(offer.charmap.offset, offset, "{name}");
+        }
+        if let Some(whole) = &whole {
+            assert_eq!(offers_of_small, offers(whole), "{name}, {reading:?}");
+        }
+        counts.offers += offers_of_small.len() as u64;
     }
     counts.read += 1;
     counts.collected += u64::from(file.starts_with(b"ttcf"));
-    counts.offers += offers_of_small.len() as u64;
     let length = second_font(small.as_bytes()).len();
     counts.longest = counts.longest.max(length);
+}
+
+/// What is read of a font in a job is what is read of the whole file; the offset
+/// of the subtable there.
+fn compare_reading((file, number): (&[u8], u16), small: &Job<'_>, name: &str) -> u32 {
+    let reading = small.reading().number();
+    let read = plain::font::read(second_font(small.as_bytes()), reading, 0);
+    let mut read = read.expect("the picker took it");
+    let whole = plain::font::read(file, reading, number).expect("the picker took it");
+    read.charmap.offset = whole.charmap.offset;
+    assert_eq!(read, whole, "{name}");
+    whole.charmap.offset
 }
 
 #[test]

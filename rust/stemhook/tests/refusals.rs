@@ -3,7 +3,7 @@
 mod common;
 
 use common::fonts;
-use stemhook::{Refusal, check, offer, offer_bytes};
+use stemhook::{Reading, Refusal, check, offer, offer_bytes};
 
 /// A job with one face of a font, and what comes after it.
 fn with_font(font: &[u8], after: &[u8]) -> Vec<u8> {
@@ -32,19 +32,22 @@ fn refused(job: &[u8], refusal: Refusal, position: Option<usize>) {
     assert_eq!(of_check.refusal(), refusal);
     assert_eq!(of_check.position(), position.map(|at| at as u32));
     let mut out = [0x5a; 40];
-    assert_eq!(offer_bytes(job, 0, 0, &mut out), Err(of_check));
+    for reading in common::READINGS {
+        assert_eq!(offer_bytes(job, reading, 0, 0, &mut out), Err(of_check));
+        assert_eq!(offer(job, reading, u32::MAX, u32::MAX), Err(of_check));
+    }
     assert_eq!(out, [0x5a; 40]);
-    assert_eq!(offer(job, u32::MAX, u32::MAX), Err(of_check));
 }
 
 #[test]
 fn an_accepted_job() {
     let job = accepted();
     assert_eq!(check(&job), Ok(()));
-    let first = offer(&job, 0, 0).unwrap().unwrap();
+    let first = offer(&job, Reading::AsStored, 0, 0).unwrap().unwrap();
     assert_eq!((first.family.number(), first.place), (0, 0));
     assert!(first.settings.is_empty() && !first.embolden && first.skew == 0);
-    assert_eq!(offer(&job, 0, 1), Ok(None));
+    assert_eq!(offer(&job, Reading::OpenType, 0, 0), Ok(Some(first)));
+    assert_eq!(offer(&job, Reading::OpenType, 0, 1), Ok(None));
     assert_eq!(check(&[0; 8]), Ok(()));
 }
 
@@ -53,7 +56,7 @@ fn output_of_any_other_length_is_16() {
     let job = accepted();
     for length in (0..100).chain([4096]) {
         let mut out = vec![0x5a; length];
-        let answer = offer_bytes(&job, 0, 0, &mut out);
+        let answer = offer_bytes(&job, Reading::AsStored, 0, 0, &mut out);
         if length == 40 {
             assert_eq!(answer, Ok(true));
             assert_ne!(out, vec![0x5a; 40]);
@@ -64,15 +67,20 @@ fn output_of_any_other_length_is_16() {
         assert_eq!(error.position(), None);
         assert_eq!(out, vec![0x5a; length]);
     }
-    // Before anything of the job.
-    let error = offer_bytes(&[], 0, 0, &mut [0; 41]).unwrap_err();
-    assert_eq!(error.refusal(), Refusal::OutputLength);
+    // Before the reading, and before anything of the job.
+    for reading in [0, 1, 2, u32::MAX] {
+        let error = offer_bytes(&[], reading, 0, 0, &mut [0; 41]).unwrap_err();
+        assert_eq!(error.refusal(), Refusal::OutputLength);
+    }
 }
 
 #[test]
 fn a_job_over_its_most_bytes_is_17() {
     let job = vec![0; 16_777_217];
     refused(&job, Refusal::JobLength, None);
+    // Before the reading.
+    let error = offer(&job, 2_u32, 0, 0).unwrap_err();
+    assert_eq!(error.refusal(), Refusal::JobLength);
     // One byte less is read.
     refused(&job[1..], Refusal::BytesLeft, Some(8));
 }
@@ -382,6 +390,41 @@ fn unknown_masks_and_spare_fields_are_25() {
     refused(&job, Refusal::UnknownOrSpare, Some(kind));
 }
 
+/// Numbers that are no reading; some would be one if they were cut.
+const NO_READINGS: [u32; 10] = [
+    2,
+    3,
+    255,
+    256,
+    257,
+    0x1_0000,
+    0x1_0001,
+    0x8000_0000,
+    0x8000_0001,
+    u32::MAX,
+];
+
+#[test]
+fn an_unknown_reading_is_25_before_anything_of_the_job() {
+    let job = accepted();
+    let mut of_kind = job.clone();
+    let kind = job.len() - REQUEST.len() + 6;
+    of_kind[kind] = 4;
+    refused(&of_kind, Refusal::UnknownOrSpare, Some(kind));
+    let most = vec![0; 16_777_216];
+    for job in [&job[..], &of_kind, &job[..100], &[], &[0; 9], &most] {
+        for reading in NO_READINGS {
+            let mut out = [0x5a; 40];
+            let error = offer_bytes(job, reading, 0, 0, &mut out).unwrap_err();
+            // It is not the job's own.
+            assert_eq!(error.refusal(), Refusal::UnknownOrSpare);
+            assert_eq!(error.position(), None);
+            assert_eq!(out, [0x5a; 40]);
+            assert_eq!(offer(job, reading, u32::MAX, u32::MAX), Err(error));
+        }
+    }
+}
+
 #[test]
 fn numbers_outside_are_26() {
     let job = accepted();
@@ -426,7 +469,7 @@ fn an_unknown_request_is_28() {
     let job = accepted();
     for request in [1, 2, 256, 65_536, u32::MAX] {
         for number in [0, 1, u32::MAX] {
-            let error = offer(&job, request, number).unwrap_err();
+            let error = offer(&job, Reading::OpenType, request, number).unwrap_err();
             assert_eq!(error.refusal(), Refusal::NoSuchRequest);
             assert_eq!(error.position(), None);
         }

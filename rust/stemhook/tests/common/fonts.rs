@@ -53,6 +53,19 @@ pub fn weight(weight: u16) -> Vec<u8> {
     file([0, 1, 0, 0], &tables)
 }
 
+/// An oblique font with an angle in its `post` table, in whole degrees and as
+/// fonts count them: below zero it leans right.
+#[allow(dead_code)]
+pub fn oblique(angle: i16) -> Vec<u8> {
+    let fixed = (i32::from(angle) << 16) as u32;
+    let tables = [
+        (*b"OS/2", os2(400, 5, 1 << 9)),
+        (*b"cmap", cmap(3, 1)),
+        (*b"post", post(fixed)),
+    ];
+    file([0, 1, 0, 0], &tables)
+}
+
 /// A font of weight 400 with axes.
 #[allow(dead_code)]
 pub fn variable(axes: &[([u8; 4], i16, i16, i16)]) -> Vec<u8> {

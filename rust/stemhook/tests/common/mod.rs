@@ -13,7 +13,7 @@ use std::{
     path::PathBuf,
 };
 
-use stemhook::{Job, Offer, check};
+use stemhook::{Job, Offer, Reading, check};
 
 /// A file of the repository, by its path from the root.
 pub fn repository_file(path: &str) -> PathBuf {
@@ -39,19 +39,23 @@ pub fn skip(test: &str, lack: &str) {
     let _ = writeln!(io::stderr(), "\n{test}: SKIPPED: {lack}");
 }
 
-/// What the program `offers` prints for a job.
-pub fn text(bytes: &[u8]) -> String {
-    lines(bytes, false)
+/// The two readings.
+pub const READINGS: [Reading; 2] = [Reading::AsStored, Reading::OpenType];
+
+/// What the program `offers` prints for a job under a reading.
+pub fn text(bytes: &[u8], reading: Reading) -> String {
+    lines(bytes, reading, false)
 }
 
-/// What the program `offer_cases` prints for a job: the same, with the charmap index after the skew.
+/// What the program `offer_cases` prints for a job: the same under the first
+/// reading, with the charmap index after the skew.
 pub fn indexed_text(bytes: &[u8]) -> String {
-    lines(bytes, true)
+    lines(bytes, Reading::AsStored, true)
 }
 
-fn lines(bytes: &[u8], indexed: bool) -> String {
+fn lines(bytes: &[u8], reading: Reading, indexed: bool) -> String {
     let job = match Job::new(bytes) {
-        Ok(job) => job,
+        Ok(job) => job.with_reading(reading),
         Err(refused) => {
             let position = refused.position().unwrap_or(0);
             return format!("refused {} {position}\n", refused.number());
@@ -69,7 +73,8 @@ fn lines(bytes: &[u8], indexed: bool) -> String {
     text
 }
 
-fn line(offer: &Offer, indexed: bool) -> String {
+/// The line of an offer, without its request.
+pub fn line(offer: &Offer, indexed: bool) -> String {
     let bold = if offer.embolden { 'b' } else { '-' };
     let mut line = format!("{} {} {bold} {}", offer.family, offer.place, offer.skew);
     if indexed {
