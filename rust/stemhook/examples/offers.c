@@ -1,11 +1,15 @@
 /* Reads a job from standard input and prints its offers, or why it is refused: `requests N`, then for each offer the
  * request, family, place, b or -, skew, and tag=bits for each setting.
  *
- *     cc offers.c $(pkg-config --cflags --libs stemhook) -o offers && ./offers <JOB
+ *     cc offers.c $(pkg-config --cflags --libs stemhook) -o offers && ./offers [READING] <JOB
+ *
+ * READING is 0, as where it is left out, for the slant numbers of fonts as they are stored; or 1, for their sense in
+ * OpenType. Any other word is no reading, nor are several.
  */
 #include <inttypes.h>
 #include <stdio.h>
 #include <stdlib.h>
+#include <string.h>
 
 #include "stemhook.h"
 
@@ -27,35 +31,54 @@ static void print_offer(unsigned request, const uint8_t *out)
 }
 
 /* The number of requests: the first that the offer call does not find. */
-static unsigned request_count(const uint8_t *job, size_t length)
+static unsigned request_count(const uint8_t *job, size_t length, uint32_t reading)
 {
     uint8_t out[STEMHOOK_OFFER_BYTES];
     unsigned count = 0;
 
-    while (stemhook_offer(job, length, count, UINT32_MAX, out, sizeof out) == STEMHOOK_PAST_LIST)
+    while (stemhook_offer(job, length, reading, count, UINT32_MAX, out, sizeof out) == STEMHOOK_PAST_LIST)
         count++;
     return count;
 }
 
-static void print_job(const uint8_t *job, size_t length)
+static void print_job(const uint8_t *job, size_t length, uint32_t reading)
 {
     uint64_t checked = stemhook_check(job, length);
     uint8_t out[STEMHOOK_OFFER_BYTES];
     unsigned requests, request;
     uint32_t offer;
 
+    if (reading != STEMHOOK_READING_AS_STORED && reading != STEMHOOK_READING_OPENTYPE) {
+        /* The check call takes no reading. The offer call refuses it before anything of the job but its length. */
+        printf("refused %" PRIu32 " 0\n", stemhook_offer(job, length, reading, 0, 0, out, sizeof out));
+        return;
+    }
     if (checked != 0) {
         printf("refused %" PRIu32 " %" PRIu32 "\n", STEMHOOK_REFUSAL(checked), STEMHOOK_POSITION(checked));
         return;
     }
-    requests = request_count(job, length);
+    requests = request_count(job, length, reading);
     printf("requests %u\n", requests);
-    for (request = 0; request < requests; request++)
-        for (offer = 0; stemhook_offer(job, length, request, offer, out, sizeof out) == STEMHOOK_OFFERED; offer++)
+    for (request = 0; request < requests; request++) {
+        offer = 0;
+        while (stemhook_offer(job, length, reading, request, offer, out, sizeof out) == STEMHOOK_OFFERED) {
             print_offer(request, out);
+            offer++;
+        }
+    }
 }
 
-int main(void)
+/* The reading that the words after the program's name say. */
+static uint32_t reading_of(int count, char **words)
+{
+    if (count == 0 || (count == 1 && strcmp(words[0], "0") == 0))
+        return STEMHOOK_READING_AS_STORED;
+    if (count == 1 && strcmp(words[0], "1") == 0)
+        return STEMHOOK_READING_OPENTYPE;
+    return UINT32_MAX;
+}
+
+int main(int count, char **arguments)
 {
     /* One byte more than a job may have, so that a longer one is refused. */
     size_t space = (size_t)STEMHOOK_JOB_BYTES + 1;
@@ -72,7 +95,7 @@ int main(void)
         free(job);
         return 1;
     }
-    print_job(job, length);
+    print_job(job, length, reading_of(count - 1, arguments + 1));
     free(job);
     if (fflush(stdout) != 0 || ferror(stdout)) {
         perror("offers: standard output");

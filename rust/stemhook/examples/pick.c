@@ -2,6 +2,10 @@
  * best first: file, embolden, skew, the offset of the cmap subtable in the file, and the axis settings.
  *
  *     cc pick.c $(pkg-config --cflags --libs stemhook) -o pick && ./pick 700 FILE...
+ *     ./pick --reading opentype --oblique 12 700 FILE...
+ *
+ * --oblique DEGREES asks for an oblique that leans right by so many degrees, or left below zero; else the style is
+ * normal. --reading says which way the slant numbers of the fonts count: stored, as where it is left out, or opentype.
  *
  * All fonts of a collection (.ttc) are faces of the family, and are called FILE#N, by their numbers from 0. FILE#N as an
  * argument takes one of them, unless there is a file of that very name.
@@ -288,27 +292,37 @@ static void put_family(struct buffer *job, unsigned faces)
         put_half(job, face);
 }
 
-/* One request: of width 1 and normal style, for the family 0, without fallbacks. */
-static void put_request(struct buffer *job, unsigned most, float weight)
+/* What is asked for. */
+struct asked {
+    float weight;
+    /* Whether the style is oblique, and its angle; zero where it is not. */
+    int oblique;
+    float degrees;
+    /* No part of the job: it is given with the offer call. */
+    uint32_t reading;
+};
+
+/* One request: of width 1, for the family 0, without fallbacks. */
+static void put_request(struct buffer *job, unsigned most, const struct asked *asked)
 {
     put_half(job, 1);
     put_half(job, most);
     put_single(job, 1.0f);
-    put_byte(job, 0);
-    put_single(job, 0.0f);
-    put_single(job, weight);
+    put_byte(job, asked->oblique ? 3 : 0);
+    put_single(job, asked->degrees);
+    put_single(job, asked->weight);
     put_byte(job, 1);
     put_half(job, 0);
     put_byte(job, 0);
 }
 
 /* Writes the whole job; 0 where it fails, which is told. */
-static int put_job(struct buffer *job, struct faces *faces, char **names, unsigned count, float weight)
+static int put_job(struct buffer *job, struct faces *faces, char **names, unsigned count, const struct asked *asked)
 {
     if (!put_faces(job, faces, names, count))
         return 0;
     put_family(job, faces->count);
-    put_request(job, UINT16_MAX, weight);
+    put_request(job, UINT16_MAX, asked);
     if (job->failure != NO_FAILURE) {
         tell_failure(job->failure, NULL);
         return 0;
@@ -349,7 +363,7 @@ static void print_offer(const struct faces *faces, const uint8_t *out)
 }
 
 /* Prints the offers of the request 0; 0 where the job is refused, which is told. */
-static int print_offers(const struct buffer *job, const struct faces *faces)
+static int print_offers(const struct buffer *job, const struct faces *faces, uint32_t reading)
 {
     uint64_t checked = stemhook_check(job->bytes, job->length);
     uint8_t out[STEMHOOK_OFFER_BYTES];
@@ -360,12 +374,12 @@ static int print_offers(const struct buffer *job, const struct faces *faces)
         return 0;
     }
     for (number = 0;; number++) {
-        answer = stemhook_offer(job->bytes, job->length, 0, number, out, sizeof out);
+        answer = stemhook_offer(job->bytes, job->length, reading, 0, number, out, sizeof out);
         if (answer != STEMHOOK_OFFERED)
             break;
         print_offer(faces, out);
     }
-    /* What the check call accepts is not refused here: this would be a wrong request or output length. */
+    /* What the check call accepts is not refused here: this would be a wrong reading, request or output length. */
     if (answer != STEMHOOK_PAST_LIST)
         fprintf(stderr, "pick: refused %" PRIu32 ": %s\n", answer, stemhook_meaning(answer));
     return answer == STEMHOOK_PAST_LIST;
@@ -373,44 +387,77 @@ static int print_offers(const struct buffer *job, const struct faces *faces)
 
 /* ---- the program */
 
-/* Reads a finite number; 0 where the text is none. */
-static int read_weight(const char *text, float *weight)
+/* Reads a finite number; 0 where the text is none, which is told with the name of what it is for. */
+static int read_number(const char *name, const char *text, float *number)
 {
     char *end;
 
-    *weight = strtof(text, &end);
-    return end != text && *end == '\0' && isfinite(*weight);
+    *number = strtof(text, &end);
+    if (end != text && *end == '\0' && isfinite(*number))
+        return 1;
+    fprintf(stderr, "pick: %s: \"%s\" is no finite number\n", name, text);
+    return 0;
 }
 
-/* Reads the weight and looks at how many files there are; 0 where they are wrong, which is told. */
-static int read_arguments(int count, char **arguments, float *weight)
+static int is_option(const char *word)
 {
-    if (count < 3) {
-        fprintf(stderr, "usage: pick WEIGHT FILE...\n");
-        return 0;
+    return strcmp(word, "--reading") == 0 || strcmp(word, "--oblique") == 0;
+}
+
+/* Reads an option's value; 0 where it is wrong, which is told. */
+static int read_option(const char *name, const char *value, struct asked *asked)
+{
+    if (strcmp(name, "--oblique") == 0) {
+        asked->oblique = 1;
+        return read_number(name, value, &asked->degrees);
     }
-    if (!read_weight(arguments[1], weight)) {
-        fprintf(stderr, "pick: WEIGHT: \"%s\" is no finite number\n", arguments[1]);
-        return 0;
-    }
-    if (count - 2 > STEMHOOK_FAMILY_FACES) {
-        fprintf(stderr, "pick: FILE: %d are given, and a family has at most %d\n", count - 2, STEMHOOK_FAMILY_FACES);
+    if (strcmp(value, "stored") == 0) {
+        asked->reading = STEMHOOK_READING_AS_STORED;
+    } else if (strcmp(value, "opentype") == 0) {
+        asked->reading = STEMHOOK_READING_OPENTYPE;
+    } else {
+        fprintf(stderr, "pick: --reading: \"%s\" is not stored or opentype\n", value);
         return 0;
     }
     return 1;
 }
 
+/* Reads the options and the weight, and looks at how many files follow. Answers where those begin, or 0 where the words
+ * are wrong, which is told.
+ */
+static int read_arguments(int count, char **arguments, struct asked *asked)
+{
+    int at = 1;
+
+    for (; at + 1 < count && is_option(arguments[at]); at += 2)
+        if (!read_option(arguments[at], arguments[at + 1], asked))
+            return 0;
+    if (count - at < 2) {
+        fprintf(stderr, "usage: pick [--reading stored|opentype] [--oblique DEGREES] WEIGHT FILE...\n");
+        return 0;
+    }
+    if (!read_number("WEIGHT", arguments[at], &asked->weight))
+        return 0;
+    at++;
+    if (count - at > STEMHOOK_FAMILY_FACES) {
+        fprintf(stderr, "pick: FILE: %d are given, and a family has at most %d\n", count - at, STEMHOOK_FAMILY_FACES);
+        return 0;
+    }
+    return at;
+}
+
 int main(int count, char **arguments)
 {
     struct buffer job = {NULL, 0, 0, NO_FAILURE};
+    struct asked asked = {0.0f, 0, 0.0f, STEMHOOK_READING_AS_STORED};
     struct faces faces;
-    float weight;
-    int done;
+    int files = read_arguments(count, arguments, &asked), done;
 
-    if (!read_arguments(count, arguments, &weight))
+    if (files == 0)
         return 2;
     faces.count = 0;
-    done = put_job(&job, &faces, arguments + 2, (unsigned)(count - 2), weight) && print_offers(&job, &faces);
+    done = put_job(&job, &faces, arguments + files, (unsigned)(count - files), &asked) &&
+           print_offers(&job, &faces, asked.reading);
     free(job.bytes);
     if (fflush(stdout) != 0 || ferror(stdout)) {
         perror("pick: standard output");
