@@ -143,12 +143,13 @@ fn maxp() -> Vec<u8> {
 #[cfg(test)]
 mod tests {
     use super::*;
-    use crate::face::Reading;
+    use crate::face::FaceInfo;
+    use stemhook::Reading;
 
     #[test]
     fn it_is_a_font() {
         let font = font();
-        let words = Reading::of(&font, 0).unwrap().words();
+        let words = FaceInfo::of(&font, Reading::AsStored, 0).unwrap().words();
         assert!(words.starts_with("width 1, normal, weight 400; charmap at "));
         assert!(font.len() < 1024 && font.len().is_multiple_of(4));
     }

@@ -1,13 +1,13 @@
-//! What a font says of its face: the plain reading of the package `plain`.
+//! What a font says of its face, as the package `plain` reads it.
 //!
 //! The picker reads the same by itself. The two are compared on generated and
-//! damaged fonts.
+//! damaged fonts, under both readings.
 
 use plain::{
     Single,
     font::{self, Font},
 };
-use stemhook::{Angle, Attributes, CharmapIndex, Override, Style, Tag};
+use stemhook::{Angle, Attributes, CharmapIndex, Override, Reading, Style, Tag};
 
 use crate::{
     json::Json,
@@ -15,7 +15,7 @@ use crate::{
 };
 
 #[derive(Clone, Debug, PartialEq)]
-pub struct Reading(Font);
+pub struct FaceInfo(Font);
 
 /// A variation axis.
 #[derive(Clone, Copy, Debug, PartialEq)]
@@ -26,10 +26,11 @@ pub struct Axis {
     pub maximum: f32,
 }
 
-impl Reading {
-    /// Reads a font of a file; none where it is refused.
-    pub fn of(file: &[u8], number: u16) -> Option<Self> {
-        font::read(file, number).ok().map(Self)
+impl FaceInfo {
+    /// Reads a font of a file under a reading; none where it is refused.
+    pub fn of(file: &[u8], reading: Reading, number: u16) -> Option<Self> {
+        let read = font::read(file, reading.number(), number);
+        read.ok().map(Self)
     }
 
     /// Applies an override.

@@ -53,6 +53,26 @@ macro_rules! making {
     };
 }
 
+/// The reading, in the help of each command whose answer depends on it.
+macro_rules! reading_option {
+    () => {
+        "  --reading WORD    how fonts count slant: stored or opentype (default stored)
+"
+    };
+}
+
+macro_rules! readings {
+    () => {
+        "\
+A stem like / leans right. A request counts that above zero (oblique:12), and a
+font below zero, in its post table and on its axis slnt. With --reading opentype a
+font's number is turned where it meets a request's, so that oblique:12 gets the
+face that leans right, and sets slnt to -12. With --reading stored it is copied, as
+fontique does: such a face counts as leaning left, and slnt is set to 12.
+"
+    };
+}
+
 /// How the fonts of a collection are named.
 macro_rules! collections {
     () => {
@@ -103,14 +123,18 @@ character map lies.
 
 ",
     making!(),
+    reading_option!(),
     "  --whole           keep whole font files in memory, not what is looked at alone
   --json            print JSON
 ",
     usual!(),
     "\n",
+    readings!(),
+    "\n",
     files_and_requests!(),
     "
 JSON is one object, in which number is that of a collection's font, else null:
+  reading   stored or opentype
   families  [{folder or null, fallback, files: [..], numbers: [..]}], by number,
             with a file and a number for each place
   requests  [{attributes: {width, style, angle or null, weight}, most, offers:
@@ -125,23 +149,29 @@ const LIST: &str = concat!(
 usage: stemhook list [OPTION]... DIR|FILE...
 
 Prints what was read of each font: width, style, weight, axes and character map,
-and the same after overrides. It is the plain reading, which is compared with the
-proved picker's on generated and damaged fonts; that a font is unusable is the
-picker's own word. Any number of files will do.
+and the same after overrides. It is read by the package plain, which is compared
+with the proved picker on generated and damaged fonts; that a font is unusable is
+the picker's own word. Any number of files will do.
 
-  --override SPEC   FILE:KEY=VALUE,.. in place of what FILE says of itself: width,
+",
+    reading_option!(),
+    "  --override SPEC   FILE:KEY=VALUE,.. in place of what FILE says of itself: width,
                     style, weight, or the default of an axis by its tag
   -r, --recursive   look into folders of folders
   --json            print JSON
 ",
     usual!(),
     "
-From a folder, files with a font's ending are taken; others are counted.
+From a folder, files with a font's ending are taken; others are counted. The angle
+of an oblique is shown as it counts under the reading.
 
 ",
+    readings!(),
+    "\n",
     collections!(),
     "
 JSON is one object, in which number is that of a collection's font, else null:
+  reading     stored or opentype
   faces       [{file, number, read: R, overridden: R or null}], R being {width,
               style, angle or null, weight, axes: [{tag, minimum, default,
               maximum}], charmap: {offset, symbol, macRoman}}
@@ -157,8 +187,9 @@ usage: stemhook job [OPTION]... -o JOB DIR|FILE... [--family DIR|FILE...]...
 
 Writes the job: the bytes that the picker and the program offers read. It has of
 each font just what the picker looks at, so that charmap offsets read from it do
-not count in the font's own file, unless --whole is given. The file is written
-whole or not at all.
+not count in the font's own file, unless --whole is given. It holds no reading:
+one is given to what reads the job, as by offers 1. The file is written whole or
+not at all.
 
   -o, --output JOB  the file to write; - is standard output
   --whole           put whole font files in
@@ -183,9 +214,12 @@ axis's range is marked. The page is written whole or not at all.
   --text TEXT       the text to set
 ",
     making!(),
+    reading_option!(),
     "  --whole           keep whole font files in memory, not what is looked at alone
 ",
     usual!(),
+    "\n",
+    readings!(),
     "\n",
     files_and_requests!(),
 );

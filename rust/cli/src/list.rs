@@ -5,7 +5,7 @@ use std::io::{self, BufWriter, IsTerminal, Write};
 use stemhook::{FontFile, JobBuilder};
 
 use crate::{
-    face::Reading,
+    face::FaceInfo,
     failure::Failure,
     files::{self, Family, MOST_TOLD, Skipped, more},
     font::Font,
@@ -13,7 +13,7 @@ use crate::{
     load::{are_there, differs, fault, is_usable, other_files},
     options::Options,
     overrides::names,
-    pick::{font_json, skipped_json},
+    pick::{font_json, reading_json, skipped_json},
     progress::Progress,
     words::shown,
 };
@@ -56,7 +56,8 @@ struct List<'a, W> {
 impl<W: Write> List<'_, W> {
     fn start(&mut self) -> io::Result<()> {
         if self.options.json {
-            self.out.write_all(b"{\n  \"faces\": [")?;
+            let reading = reading_json(self.options.reading).spread(0);
+            write!(self.out, "{{\n  \"reading\": {reading},\n  \"faces\": [")?;
         }
         Ok(())
     }
@@ -98,14 +99,14 @@ impl<W: Write> List<'_, W> {
     }
 
     /// What a font says, and what it is after the overrides, if there are any.
-    fn read(&self, font: &Font, bytes: &[u8]) -> Result<(Reading, Option<Reading>), Skipped> {
+    fn read(&self, font: &Font, bytes: &[u8]) -> Result<(FaceInfo, Option<FaceInfo>), Skipped> {
         let number = font.index();
         // Whether it can be used is the picker's word.
         if let Err(error) = JobBuilder::new().face(FontFile::new(bytes).number(number)) {
             let other = || Skipped::new(font, error.to_string());
             return Err(fault(&error, font).unwrap_or_else(other));
         }
-        let own = Reading::of(bytes, number);
+        let own = FaceInfo::of(bytes, self.options.reading, number);
         let own = own.ok_or_else(|| Skipped::new(font, differs(font)))?;
         let mut after = None;
         for given in &self.options.overrides {
@@ -120,14 +121,14 @@ impl<W: Write> List<'_, W> {
         &mut self,
         indent: &str,
         font: &Font,
-        own: &Reading,
-        after: Option<&Reading>,
+        own: &FaceInfo,
+        after: Option<&FaceInfo>,
     ) -> io::Result<()> {
         if self.options.json {
             let comma = if self.faces == 0 { "" } else { "," };
             let mut face = font_json(font);
             face.push(("read", own.json()));
-            face.push(("overridden", after.map_or(Json::Null, Reading::json)));
+            face.push(("overridden", after.map_or(Json::Null, FaceInfo::json)));
             let face = Json::Object(face);
             write!(self.out, "{comma}\n    {}", face.spread(0))?;
         } else {

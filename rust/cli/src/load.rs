@@ -11,7 +11,7 @@ use stemhook::{
 };
 
 use crate::{
-    face::Reading,
+    face::FaceInfo,
     failure::{Failure, failed, say},
     files::{self, Found, MOST_TOLD, Skipped, more},
     font::Font,
@@ -26,8 +26,8 @@ use crate::{
 /// A face of the job.
 pub struct Face {
     pub font: Font,
-    /// After all overrides.
-    pub reading: Reading,
+    /// What was read, after all overrides.
+    pub info: FaceInfo,
     digest: u64,
 }
 
@@ -313,10 +313,10 @@ impl<'a> Loader<'a> {
         let mut faces = Vec::new();
         match self.builder.face(given) {
             Ok(face) => {
-                let reading = self.overridden(&font, bytes, face)?;
+                let info = self.overridden(&font, bytes, face)?;
                 self.faces.push(Face {
                     font: font.clone(),
-                    reading,
+                    info,
                     digest,
                 });
                 faces.push(face);
@@ -335,18 +335,18 @@ impl<'a> Loader<'a> {
     }
 
     /// Applies the overrides of a face that the builder has taken.
-    fn overridden(&mut self, font: &Font, bytes: &[u8], face: FaceId) -> Result<Reading, Failure> {
-        let Some(mut reading) = Reading::of(bytes, font.index()) else {
+    fn overridden(&mut self, font: &Font, bytes: &[u8], face: FaceId) -> Result<FaceInfo, Failure> {
+        let Some(mut info) = FaceInfo::of(bytes, self.options.reading, font.index()) else {
             return failed(differs(font));
         };
         for given in &self.options.overrides {
             if names(&given.file, font) {
                 let done = self.builder.override_face(face, &given.given);
                 done.map_err(|error| about(&font.shown(), &error))?;
-                reading.apply(&given.given);
+                info.apply(&given.given);
             }
         }
-        Ok(reading)
+        Ok(info)
     }
 
     /// The job of all families, with the requests.
@@ -370,8 +370,9 @@ impl<'a> Loader<'a> {
             added.map_err(|error| about(&asked.words(), &error))?;
         }
         let built = self.builder.build();
+        let job = built.map_err(|error| about("the job", &error))?;
         Ok(Loaded {
-            job: built.map_err(|error| about("the job", &error))?,
+            job: job.with_reading(self.options.reading),
             faces: self.faces,
             families: self.families,
             requests,
@@ -380,9 +381,9 @@ impl<'a> Loader<'a> {
     }
 }
 
-/// The picker takes a font that the plain reading refuses. The two are compared
+/// The picker takes a font that the package `plain` refuses. The two are compared
 /// so that this does not arise.
 pub fn differs(font: &Font) -> String {
     let font = font.shown();
-    format!("{font}: the picker and the plain reading differ on this font")
+    format!("{font}: the picker and the package plain differ on this font")
 }

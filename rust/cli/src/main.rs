@@ -4,8 +4,8 @@
 //!
 //! Which faces are offered, in which order and with what done to them is the
 //! proved picker's answer, by the crate `stemhook`. What `list` shows of a font
-//! (and, on a page, the ranges of its axes) is the plain reading of the package
-//! `plain`, which is compared with the picker on generated and damaged fonts.
+//! (and, on a page, the ranges of its axes) is what the package `plain` reads,
+//! which is compared with the picker on generated and damaged fonts.
 //!
 //! `stemhook --help` and `stemhook COMMAND --help` say what it takes.
 

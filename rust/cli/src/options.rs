@@ -2,11 +2,13 @@
 
 use std::{ffi::OsString, path::PathBuf};
 
+use stemhook::Reading;
+
 use crate::{
     command::Command,
     failure::{Failure, usage},
     overrides::FileOverride,
-    values::Asked,
+    values::{self, Asked},
     words::{Name, Takes, Word, Words, shown},
 };
 
@@ -14,6 +16,8 @@ use crate::{
 pub struct Options {
     pub inputs: Vec<Group>,
     pub asked: Asked,
+    /// Which way the slant numbers of fonts count.
+    pub reading: Reading,
     /// A file of requests; `-` is standard input.
     pub requests: Option<PathBuf>,
     pub overrides: Vec<FileOverride>,
@@ -42,6 +46,7 @@ enum Option_ {
     Family,
     Fallback,
     Asked(&'static str),
+    Reading,
     Requests,
     Override,
     NotHeld,
@@ -54,20 +59,22 @@ enum Option_ {
     Help,
 }
 
-/// The commands that make a job.
+/// The commands that make a job. Its bytes hold no reading.
 const JOBS: &[Command] = &[Command::Pick, Command::Job, Command::Specimen];
 const SHOWN: &[Command] = &[Command::Pick, Command::List];
+const READ: &[Command] = &[Command::Pick, Command::List, Command::Specimen];
 const WRITTEN: &[Command] = &[Command::Job, Command::Specimen];
 
 /// Each option, and the commands that take it.
 #[rustfmt::skip]
-const NAMES: [(Name<Option_>, &[Command]); 16] = [
+const NAMES: [(Name<Option_>, &[Command]); 17] = [
     (name("--family", None, Takes::Joined, Option_::Family), JOBS),
     (name("--fallback", None, Takes::Joined, Option_::Fallback), JOBS),
     (name("--width", None, Takes::Value, Option_::Asked("width")), JOBS),
     (name("--style", None, Takes::Value, Option_::Asked("style")), JOBS),
     (name("--weight", None, Takes::Value, Option_::Asked("weight")), JOBS),
     (name("--most", None, Takes::Value, Option_::Asked("most")), JOBS),
+    (name("--reading", None, Takes::Value, Option_::Reading), READ),
     (name("--requests", None, Takes::Value, Option_::Requests), JOBS),
     (name("--override", None, Takes::Value, Option_::Override), &Command::ALL),
     (name("--not-held", None, Takes::Value, Option_::NotHeld), JOBS),
@@ -119,6 +126,7 @@ impl Options {
             (Option_::Family, path) => self.start("--family", false, path)?,
             (Option_::Fallback, path) => self.start("--fallback", true, path)?,
             (Option_::Asked(key), Some(text)) => self.ask(key, text)?,
+            (Option_::Reading, Some(text)) => self.read(text)?,
             (Option_::Requests, Some(file)) => self.requests = Some(file.into()),
             (Option_::Override, Some(text)) => self.overrides.push(FileOverride::parse(&text)?),
             (Option_::NotHeld, Some(file)) => self.not_held.push(file.into()),
@@ -138,6 +146,13 @@ impl Options {
         let option = format!("--{key}");
         let said = self.asked.set(key, &text(&option, value)?);
         said.or_else(|message| usage(format!("{option}: {message}")))
+    }
+
+    /// Under which reading.
+    fn read(&mut self, value: OsString) -> Result<(), Failure> {
+        let said = values::reading(&text("--reading", value)?);
+        self.reading = said.or_else(|message| usage(format!("--reading: {message}")))?;
+        Ok(())
     }
 
     /// Starts a group, with a first path or without.

@@ -2,7 +2,7 @@
 
 use std::{collections::BTreeSet, io::Write};
 
-use stemhook::Tag;
+use stemhook::{Reading, Tag};
 
 use crate::{
     base64, boxes,
@@ -11,7 +11,7 @@ use crate::{
     load::{Face, Loaded, Pick},
     output::Broken,
     pick::done,
-    values::{Asked, style_words},
+    values::{Asked, reading_word, style_words},
 };
 
 const STYLE: &str = include_str!("page.css");
@@ -71,9 +71,11 @@ impl<'a> Page<'a> {
             }
         }
         let told = self.told();
+        let reading = reading_html(self.loaded.job.reading());
         write!(
             out,
-            "</style>\n</head>\n<body>\n<header><h1>Stemhook specimen</h1><p>{told}</p></header>\n"
+            "</style>\n</head>\n<body>\n<header><h1>Stemhook specimen</h1>\
+             <p>{told}{reading}</p></header>\n"
         )?;
         for (number, (asked, picks)) in self.loaded.requests.iter().zip(self.picks).enumerate() {
             out.write_all(self.section(number, asked, picks).as_bytes())?;
@@ -203,7 +205,7 @@ impl Position {
 /// Where a face stands on each of its axes; of several axes of a tag, the first.
 fn positions(pick: &Pick, face: &Face) -> Vec<Position> {
     let mut positions: Vec<Position> = Vec::new();
-    for axis in face.reading.axes() {
+    for axis in face.info.axes() {
         if positions.iter().all(|earlier| earlier.axis.tag != axis.tag) {
             let set = pick.offer.settings.value(axis.tag);
             let value = set.unwrap_or(axis.default);
@@ -243,6 +245,14 @@ fn css_tag(tag: Tag) -> Option<String> {
         text.push(char::from(byte));
     }
     Some(text)
+}
+
+/// The reading, behind the counts; the usual one is not told.
+fn reading_html(reading: Reading) -> String {
+    if reading == Reading::default() {
+        return String::new();
+    }
+    format!("; reading {}", reading_word(reading))
 }
 
 /// The request, item by item.

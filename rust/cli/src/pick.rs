@@ -1,5 +1,7 @@
 //! The command `pick`: the offers of each request.
 
+use stemhook::Reading;
+
 use crate::{
     face::{attributes_json, charmap_json, charmap_words},
     failure::Failure,
@@ -9,7 +11,7 @@ use crate::{
     load::{Family, Loaded, Pick, load},
     options::Options,
     output,
-    values::Asked,
+    values::{Asked, reading_word},
 };
 
 pub fn run(options: &Options) -> Result<(), Failure> {
@@ -66,6 +68,7 @@ fn json(loaded: &Loaded, picks: &[Vec<Pick>]) -> Json {
     let families = loaded.families.iter();
     let requests = loaded.requests.iter().zip(picks);
     Json::Object(vec![
+        ("reading", reading_json(loaded.job.reading())),
         (
             "families",
             Json::List(families.map(|family| family_json(loaded, family)).collect()),
@@ -83,6 +86,10 @@ fn json(loaded: &Loaded, picks: &[Vec<Pick>]) -> Json {
             Json::List(loaded.skipped.iter().map(skipped_json).collect()),
         ),
     ])
+}
+
+pub fn reading_json(reading: Reading) -> Json {
+    Json::text(reading_word(reading))
 }
 
 /// The file of a font, and its number where the file is a collection.

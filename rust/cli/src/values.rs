@@ -1,7 +1,7 @@
 //! Numbers and styles as they are typed, on the command line and in a file of
 //! requests. An error says what is wrong with the text, and its caller where.
 
-use stemhook::{Angle, Attributes, Style, limits};
+use stemhook::{Angle, Attributes, Reading, Style, limits};
 
 /// What is asked for, of all families.
 #[derive(Clone, Copy, Debug, PartialEq)]
@@ -100,6 +100,22 @@ pub fn style(text: &str) -> Result<Style, String> {
     })
 }
 
+pub fn reading(text: &str) -> Result<Reading, String> {
+    let all = [Reading::AsStored, Reading::OpenType];
+    let named = all
+        .into_iter()
+        .find(|reading| reading_word(*reading) == text);
+    named.ok_or_else(|| format!("{text:?} is not a reading: stored or opentype"))
+}
+
+/// The word that is typed for a reading.
+pub const fn reading_word(reading: Reading) -> &'static str {
+    match reading {
+        Reading::AsStored => "stored",
+        Reading::OpenType => "opentype",
+    }
+}
+
 fn most(text: &str) -> Result<u16, String> {
     text.parse()
         .map_err(|_| format!("{text:?} is not a whole number from 0 to 65535"))
@@ -125,6 +141,18 @@ mod tests {
         assert_eq!(most("65535"), Ok(65535));
         for text in ["65536", "-1", "1.5", ""] {
             assert!(most(text).is_err(), "{text}");
+        }
+    }
+
+    #[test]
+    fn readings_there_and_back() {
+        for (word, number) in [("stored", 0), ("opentype", 1)] {
+            let read = reading(word).unwrap();
+            assert_eq!((read.number(), reading_word(read)), (number, word));
+        }
+        for text in ["", "0", "1", "OpenType", "stored ", "as-stored"] {
+            let expected = format!("{text:?} is not a reading: stored or opentype");
+            assert_eq!(reading(text).unwrap_err(), expected);
         }
     }
 

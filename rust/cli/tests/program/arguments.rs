@@ -46,6 +46,7 @@ fn help_names_the_options_that_are_taken() {
         "--style",
         "--weight",
         "--most",
+        "--reading",
         "--requests",
         "--override",
         "--not-held",
@@ -125,6 +126,24 @@ const WRONG: &[(&[&str], &str)] = &[
         &["pick", "--most", "-1", "x"],
         "pick: --most: \"-1\" is not a whole number from 0",
     ),
+    (
+        &["pick", "--reading", "new", "x"],
+        "pick: --reading: \"new\" is not a reading: stored or opentype",
+    ),
+    (
+        &["list", "--reading=1", "x"],
+        "list: --reading: \"1\" is not a reading: stored or opentype",
+    ),
+    (
+        &["specimen", "--reading="],
+        "specimen: --reading: \"\" is not a reading: stored or opentype",
+    ),
+    (&["pick", "--reading"], "pick: --reading needs a value"),
+    // A job's bytes hold none.
+    (
+        &["job", "--reading=opentype", "-oy", "x"],
+        "job: unknown option --reading",
+    ),
     (&["pick", "--bold", "x"], "pick: unknown option --bold"),
     (&["pick", "-x"], "pick: unknown option -x"),
     (&["pick", "--json=yes", "x"], "pick: --json takes no value"),
@@ -192,7 +211,7 @@ fn no_command_or_an_unknown_one() {
 #[test]
 fn words_that_are_not_utf_8() {
     let odd = OsStr::from_bytes(b"\xff");
-    for option in ["--weight", "--style", "--text"] {
+    for option in ["--weight", "--style", "--text", "--reading"] {
         let words = [OsStr::new("specimen"), option.as_ref(), odd, "x".as_ref()];
         let message = stemhook(words).usage();
         let expected = format!("stemhook specimen: {option}: \"\u{fffd}\" is not UTF-8\n");
@@ -239,7 +258,7 @@ fn files_with_the_names_of_options() {
 }
 
 /// Words of which command lines are made.
-const WORDS: [&str; 25] = [
+const WORDS: [&str; 28] = [
     "pick",
     "list",
     "job",
@@ -263,6 +282,9 @@ const WORDS: [&str; 25] = [
     "a.ttf#0",
     "c.ttc#1",
     "--requests",
+    "--reading",
+    "--reading=stored",
+    "--reading=opentype",
     "",
     "-h",
 ];

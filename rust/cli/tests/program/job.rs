@@ -5,7 +5,7 @@ use std::{
     process::{Command, Stdio},
 };
 
-use stemhook::{Job, RequestId};
+use stemhook::{Job, Reading, RequestId};
 
 use crate::{
     common::{self, fonts},
@@ -72,7 +72,28 @@ fn a_file_in_two_families_is_one_face() {
     );
 }
 
-/// The proved program prints the same offers as `pick`.
+/// A folder with faces that lean and one with a slant axis, and the words of a
+/// job of them.
+fn leaning(folder: &Folder) -> Vec<String> {
+    folder.font("v.otf", &variable());
+    folder.font("l.ttf", &fonts::oblique(12));
+    folder.font("r.ttf", &fonts::oblique(-12));
+    folder.font("s/s.otf", &fonts::variable(&[(*b"slnt", -10, 0, 0)]));
+    let requests = b"weight=700\nstyle=italic weight=650 width=0.5\nstyle=oblique:12\n";
+    folder.font("list.txt", requests);
+    let [family, fallback, requests] = ["", "s", "list.txt"].map(|name| folder.file(name));
+    let words = [
+        "-q",
+        &family,
+        "--fallback",
+        &fallback,
+        "--requests",
+        &requests,
+    ];
+    words.map(str::to_owned).to_vec()
+}
+
+/// The proved program prints the same offers as `pick`, under both readings.
 #[test]
 fn the_program_offers_reads_it() {
     let offers = common::repository_file("target/bin/offers");
@@ -81,24 +102,28 @@ fn the_program_offers_reads_it() {
         return common::skip("the_program_offers_reads_it", lack);
     }
     let folder = Folder::with_two("job-offers");
-    folder.font("v.otf", &variable());
-    let requests = folder.font(
-        "list.txt",
-        b"weight=700\nstyle=italic weight=650 width=0.5\n",
-    );
-    let requests = requests.to_str().unwrap();
+    let words = leaning(&folder);
+    let words: Vec<&str> = words.iter().map(String::as_str).collect();
     let job = folder.file("out.job");
-    let words = ["-q", folder.text(), "--requests", requests];
     stemhook([&["job", "-o", &job], &words[..]].concat()).well();
-    let output = Command::new(offers)
-        .stdin(File::open(&job).unwrap())
-        .stderr(Stdio::inherit())
-        .output()
-        .unwrap();
-    let printed = String::from_utf8(output.stdout).unwrap();
-    assert_eq!(printed, common::text(&fs::read(&job).unwrap()));
-    let picked = stemhook([&["pick"], &words[..]].concat()).well();
-    let picked = picked.lines().filter(|line| line.starts_with("  ")).count();
-    assert_eq!(printed.lines().count(), 1 + picked);
-    assert!(printed.starts_with("requests 2\n0 0 1 - 0\n"), "{printed}");
+    let printed = [
+        (Reading::AsStored, "stored"),
+        (Reading::OpenType, "opentype"),
+    ]
+    .map(|(reading, word)| {
+        let output = Command::new(&offers)
+            .arg(reading.number().to_string())
+            .stdin(File::open(&job).unwrap())
+            .stderr(Stdio::inherit())
+            .output()
+            .unwrap();
+        let printed = String::from_utf8(output.stdout).unwrap();
+        assert_eq!(printed, common::text(&fs::read(&job).unwrap(), reading));
+        let picked = stemhook([&["pick", "--reading", word], &words[..]].concat()).well();
+        let picked = picked.lines().filter(|line| line.starts_with("  ")).count();
+        assert_eq!(printed.lines().count(), 1 + picked);
+        assert!(printed.starts_with("requests 3\n0 0 1 - 0\n"), "{printed}");
+        printed
+    });
+    assert_ne!(printed[0], printed[1]);
 }

@@ -50,6 +50,32 @@ fn what_was_read_and_what_it_becomes() {
     assert!(said.ends_with("\n1 face, 0 unusable\n"), "{said}");
 }
 
+/// What is read of the angle is turned under the other reading, and nothing
+/// else: not an axis, and not what an override says.
+#[test]
+fn the_angle_under_each_reading() {
+    let folder = Folder::new("list-readings");
+    folder.font("a.ttf", &oblique());
+    folder.font("b.ttf", &fonts::oblique(0));
+    folder.font("c.otf", &fonts::variable(&[(*b"slnt", -10, 0, 0)]));
+    let words = ["list", folder.text(), "--override=a.ttf:style=oblique:-3"];
+    let stored = stemhook(words).well();
+    let said = |word| stemhook([&words[..], &["--reading", word]].concat()).well();
+    assert_eq!(said("stored"), stored);
+    assert!(stored.contains("a.ttf: width 0.75, oblique -9.5,"));
+    assert!(stored.contains("after overrides: width 0.75, oblique -3,"));
+    assert!(stored.contains("b.ttf: width 1, oblique 0,"));
+    assert!(stored.contains("slnt -10 to 0 (default 0)"));
+    assert_eq!(said("opentype"), stored.replace("-9.5", "9.5"));
+
+    let words = [&words[..], &["--json", "--reading=opentype"]].concat();
+    let value = Value::read(&stemhook(words).well());
+    assert_eq!(value["reading"].text(), "opentype");
+    let face = &value["faces"][0];
+    let angles = ["read", "overridden"].map(|key| face[key]["angle"].number());
+    assert_eq!(angles, [9.5, -3.0]);
+}
+
 /// The JSON of a folder, with an override.
 fn json(folder: &Folder) -> Value {
     folder.font("a.ttf", &oblique());
@@ -64,7 +90,9 @@ fn json(folder: &Folder) -> Value {
 fn json_of_the_same() {
     let folder = Folder::new("list-json");
     let value = json(&folder);
-    assert_eq!(value.keys(), ["faces", "skipped", "passedOver"]);
+    let keys = ["reading", "faces", "skipped", "passedOver"];
+    assert_eq!(value.keys(), keys);
+    assert_eq!(value["reading"].text(), "stored");
     let faces = value["faces"].list();
     assert_eq!(faces.len(), 2);
     assert_eq!(faces[0].keys(), ["file", "number", "read", "overridden"]);

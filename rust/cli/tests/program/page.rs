@@ -108,8 +108,8 @@ fn fonts_of_collections_are_taken_out() {
     let files = [(&two, 0), (&two, 1), (&other, 1)];
     assert_eq!(embedded.len(), files.len());
     for (font, (file, number)) in embedded.iter().zip(files) {
-        let mut read = plain::font::read(font, 0).unwrap();
-        let own = plain::font::read(file, number).unwrap();
+        let mut read = plain::font::read(font, 0, 0).unwrap();
+        let own = plain::font::read(file, 0, number).unwrap();
         let subtable = |file: &[u8], at: u32| file[at as usize..][..2].to_vec();
         assert_eq!(
             subtable(font, read.charmap.offset),
@@ -122,8 +122,9 @@ fn fonts_of_collections_are_taken_out() {
     assert_eq!(kinds, ["font/ttf", "font/ttf", "font/ttf", "font/otf"]);
 }
 
-/// The page of a variable face, and of a static one as a fallback.
-fn page_of_two(folder: &Folder) -> String {
+/// The page of a variable face, and of a static one as a fallback, under a
+/// reading where one is given.
+fn page_of_two(folder: &Folder, reading: &[&str]) -> String {
     let axes = [
         (*b"wght", 100, 400, 900),
         (*b"slnt", -10, 0, 0),
@@ -139,12 +140,12 @@ fn page_of_two(folder: &Folder) -> String {
         "--style=italic",
         "--text=two words",
     ];
-    page(folder, &words).0
+    page(folder, &[&words[..], reading].concat()).0
 }
 
 #[test]
 fn axes_are_set_and_marked() {
-    let page = page_of_two(&Folder::with_two("page-axes"));
+    let page = page_of_two(&Folder::with_two("page-axes"), &[]);
     let rows = between(&page, "<li class=\"offer\">", "</li>");
     assert_eq!(rows.len(), 2);
     // Every axis is set, those of the offer and the others to their defaults.
@@ -160,9 +161,29 @@ fn axes_are_set_and_marked() {
     assert_eq!(between(rows[0], "class=\"mark\">", "<"), [mark]);
 }
 
+/// Under the other reading `slnt` leans right, the skew stays, and the page says
+/// which reading it is; the usual one it does not say.
+#[test]
+fn the_reading_is_on_the_page() {
+    let folder = Folder::with_two("page-reading");
+    let usual = page_of_two(&folder, &[]);
+    assert_eq!(page_of_two(&folder, &["--reading=stored"]), usual);
+    assert!(!usual.contains("reading"));
+    let page = page_of_two(&folder, &["--reading=opentype"]);
+    let told = "<p>1 request, 2 offers, 2 fonts; reading opentype</p>";
+    assert!(page.contains(told));
+    let turned = usual
+        .replace("<p>1 request, 2 offers, 2 fonts</p>", told)
+        .replace("'slnt' 14", "'slnt' -14")
+        .replace("slnt=14", "slnt=-14")
+        .replace("slnt 14", "slnt -14");
+    assert_eq!(page, turned);
+    assert_ne!(page, usual);
+}
+
 #[test]
 fn a_face_is_emboldened_and_skewed() {
-    let page = page_of_two(&Folder::with_two("page-skew"));
+    let page = page_of_two(&Folder::with_two("page-skew"), &[]);
     let rows = between(&page, "<li class=\"offer\">", "</li>");
     let style = "font-family:face-1,boxes;--skew:-14deg";
     assert_eq!(between(rows[1], "style=\"", "\""), [style]);

@@ -47,6 +47,67 @@ fn offers_with_all_that_is_to_be_done() {
     assert_eq!(said, expected);
 }
 
+/// Faces that lean by 12 degrees, right and left, and one with a slant axis.
+fn leaning(folder: &Folder) -> [String; 3] {
+    folder.font("l.ttf", &fonts::oblique(12));
+    folder.font("r.ttf", &fonts::oblique(-12));
+    folder.font("v.otf", &fonts::variable(&[(*b"slnt", -10, 0, 0)]));
+    ["l.ttf", "r.ttf", "v.otf"].map(|name| folder.file(name))
+}
+
+/// The faces that are offered, and what is to be done to them.
+fn offered(words: &[&str]) -> Vec<String> {
+    let said = stemhook([&["pick"], words].concat()).well();
+    let lines = said.lines().skip(1);
+    lines
+        .map(|line| line.trim_start().split(';').next().unwrap().to_owned())
+        .collect()
+}
+
+#[test]
+fn the_reading_says_which_way_a_face_leans() {
+    let folder = Folder::new("pick-readings");
+    let [left, right, slanting] = leaning(&folder);
+    let asked = ["--style=oblique:12", &left, &right, "--fallback", &slanting];
+    for (reading, face, value) in [
+        (&[][..], &left, "12"),
+        (&["--reading=stored"], &left, "12"),
+        (&["--reading=opentype", "--reading=stored"], &left, "12"),
+        (&["--reading", "opentype"], &right, "-12"),
+    ] {
+        let expected = [
+            format!("{face}: as it is"),
+            format!("{slanting}: slnt={value}"),
+        ];
+        let said = offered(&[reading, &asked].concat());
+        assert_eq!(said, expected, "{reading:?}");
+    }
+    // The angle of an override is taken as given.
+    let given = [
+        "--override=l.ttf:style=oblique:12",
+        "--override=r.ttf:style=italic",
+    ];
+    for reading in ["--reading=stored", "--reading=opentype"] {
+        let said = offered(&[&[reading, "--most=1"], &given[..], &asked].concat());
+        assert_eq!(said, [format!("{left}: as it is")], "{reading}");
+    }
+}
+
+#[test]
+fn json_of_the_other_reading() {
+    let folder = Folder::new("pick-json-reading");
+    let [_, _, slanting] = leaning(&folder);
+    let words = ["pick", "--json", "--reading=opentype", "--style=italic"];
+    let said = stemhook([&words[..], &[slanting.as_str()]].concat()).well();
+    let value = Value::read(&said);
+    assert_eq!(value["reading"].text(), "opentype");
+    let setting = &value["requests"][0]["offers"][0]["settings"][0];
+    assert_eq!(
+        (setting["tag"].text(), setting["value"].number()),
+        ("slnt", -14.0)
+    );
+}
+
 #[test]
 fn symbol_and_mac_roman_charmaps() {
     let folder = Folder::new("pick-charmaps");
@@ -132,7 +193,8 @@ fn json_of_two_families(folder: &Folder) -> Value {
 fn json_of_families_requests_and_skipped_files() {
     let folder = Folder::with_two("pick-json");
     let value = json_of_two_families(&folder);
-    assert_eq!(value.keys(), ["families", "requests", "skipped"]);
+    assert_eq!(value.keys(), ["reading", "families", "requests", "skipped"]);
+    assert_eq!(value["reading"].text(), "stored");
 
     let families = value["families"].list();
     assert_eq!(families.len(), 2);
