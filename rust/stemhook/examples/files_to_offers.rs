@@ -2,7 +2,10 @@
 //! the offers for four requests; with whole files in the job, and with just what
 //! the picker looks at.
 //!
-//!     cargo run --release --example files_to_offers -- FOLDER..
+//!     cargo run --release --example files_to_offers -- [--opentype] FOLDER..
+//!
+//! With --opentype the slant numbers of fonts count in OpenType's sense, else as
+//! they are stored.
 
 use std::{
     env,
@@ -13,8 +16,8 @@ use std::{
 };
 
 use stemhook::{
-    Angle, Attributes, BuildError, FaceId, FontFile, Job, JobBuilder, Request, Style, face_count,
-    limits::FAMILY_FACES,
+    Angle, Attributes, BuildError, FaceId, FontFile, Job, JobBuilder, Reading, Request, Style,
+    face_count, limits::FAMILY_FACES,
 };
 
 const ROUNDS: usize = 21;
@@ -22,14 +25,19 @@ const ROUNDS: usize = 21;
 fn main() -> Result<(), Box<dyn Error>> {
     println!("| Folder | Files | In the job | Job, bytes | Read | Build | Offers | In all |");
     println!("|---|---|---|---|---|---|---|---|");
-    for folder in env::args_os().skip(1) {
+    let mut words = env::args_os().skip(1).peekable();
+    let reading = match words.next_if(|word| word == "--opentype") {
+        Some(_) => Reading::OpenType,
+        None => Reading::AsStored,
+    };
+    for folder in words {
         let folder = Path::new(&folder);
         let name = folder.file_name().unwrap_or_default().to_string_lossy();
         let files = usable(folder)?;
         for whole in [true, false] {
             let form = if whole { "whole files" } else { "tables alone" };
             let start = format!("| {name} | {} | {form} |", files.len());
-            match measured(folder, &files, whole) {
+            match measured(folder, &files, whole, reading) {
                 Ok(line) => println!("{start} {line} |"),
                 Err(error) => println!("{start} {error} | | | | |"),
             }
@@ -72,7 +80,12 @@ fn add(builder: &mut JobBuilder, file: &[u8], whole: bool) -> Result<Vec<FaceId>
 }
 
 /// The job's length and the middle of the times of some rounds.
-fn measured(folder: &Path, files: &[String], whole: bool) -> Result<String, Box<dyn Error>> {
+fn measured(
+    folder: &Path,
+    files: &[String],
+    whole: bool,
+    reading: Reading,
+) -> Result<String, Box<dyn Error>> {
     let mut times = [Vec::new(), Vec::new(), Vec::new(), Vec::new()];
     let mut length = 0;
     for _ in 0..ROUNDS {
@@ -80,7 +93,7 @@ fn measured(folder: &Path, files: &[String], whole: bool) -> Result<String, Box<
         let fonts = files.iter().map(|file| fs::read(folder.join(file)));
         let fonts = fonts.collect::<Result<Vec<_>, _>>()?;
         let read = start.elapsed();
-        let job = build(&fonts, whole)?;
+        let job = build(&fonts, whole)?.with_reading(reading);
         let built = start.elapsed();
         let mut offered = 0;
         for request in job.requests() {
