@@ -1,13 +1,15 @@
-//! The stored list of jobs, with the answers of the original sources.
+//! The stored list of jobs, with the answers of the original sources under each
+//! reading.
 
 mod common;
 
-use stemhook::{Job, Offer, Reading, Refusal, RequestId, check, offer, offer_bytes};
+use stemhook::{Job, Reading, Refusal, RequestId, check, offer, offer_bytes};
 
 fn list() -> Vec<u8> {
     common::read("crates/offer_cases/stdin")
 }
 
+/// The answers under each reading, which are not always the same.
 #[test]
 fn every_stored_job_is_answered_as_stored() {
     let list = list();
@@ -15,53 +17,21 @@ fn every_stored_job_is_answered_as_stored() {
     let jobs = common::jobs(&list);
     assert!(jobs.len() > 1000, "the list has {} jobs", jobs.len());
     let mut rest = answers.as_str();
+    let mut turned = 0;
     for (number, job) in jobs.into_iter().enumerate() {
-        let text = common::indexed_text(job);
-        let Some(after) = rest.strip_prefix(text.as_str()) else {
-            let stored: Vec<&str> = rest.lines().take(text.lines().count()).collect();
-            panic!(
-                "job {number}: answered\n{text}stored\n{}",
-                stored.join("\n")
-            );
-        };
-        rest = after;
+        let texts = common::indexed_texts(job);
+        for text in &texts {
+            let Some(after) = rest.strip_prefix(text.as_str()) else {
+                let stored: Vec<&str> = rest.lines().take(text.lines().count()).collect();
+                let stored = stored.join("\n");
+                panic!("job {number}: answered\n{text}stored\n{stored}");
+            };
+            rest = after;
+        }
+        turned += usize::from(texts[0] != texts[1]);
     }
     assert_eq!(rest, "", "answers are left");
-}
-
-/// Under the second reading the answers are those of the plain reading, and not
-/// all are those of the first.
-#[test]
-fn every_stored_job_is_answered_as_plain_has_it_under_opentype() {
-    let list = list();
-    let mut turned = 0;
-    for (number, bytes) in common::jobs(&list).into_iter().enumerate() {
-        let [stored, opentype] = common::READINGS.map(|reading| common::text(bytes, reading));
-        assert_eq!(opentype, plain_text(bytes), "job {number}");
-        turned += usize::from(stored != opentype);
-    }
-    assert!(turned > 100, "only {turned} jobs have other offers");
-}
-
-/// What the plain reading says of a job under the second reading.
-fn plain_text(bytes: &[u8]) -> String {
-    let (refusal, position) = plain::check(bytes);
-    if refusal != 0 {
-        return format!("refused {refusal} {position}\n");
-    }
-    let mut lines = String::new();
-    let mut requests = 0;
-    let mut out = [0; 40];
-    while plain::offer(bytes, 1, requests, u32::MAX, &mut out) == 1 {
-        let mut number = 0;
-        while plain::offer(bytes, 1, requests, number, &mut out) == 0 {
-            let line = common::line(&Offer::from_bytes(&out), false);
-            lines += &format!("{requests} {line}");
-            number += 1;
-        }
-        requests += 1;
-    }
-    format!("requests {requests}\n{lines}")
+    assert!(turned > 50, "only {turned} jobs are answered in two ways");
 }
 
 #[test]

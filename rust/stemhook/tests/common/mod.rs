@@ -47,10 +47,10 @@ pub fn text(bytes: &[u8], reading: Reading) -> String {
     lines(bytes, reading, false)
 }
 
-/// What the program `offer_cases` prints for a job: the same under the first
-/// reading, with the charmap index after the skew.
-pub fn indexed_text(bytes: &[u8]) -> String {
-    lines(bytes, Reading::AsStored, true)
+/// What the program `offer_cases` prints for a job: the same under each reading
+/// in turn, with the charmap index after the skew.
+pub fn indexed_texts(bytes: &[u8]) -> [String; 2] {
+    READINGS.map(|reading| lines(bytes, reading, true))
 }
 
 fn lines(bytes: &[u8], reading: Reading, indexed: bool) -> String {
@@ -73,8 +73,7 @@ fn lines(bytes: &[u8], reading: Reading, indexed: bool) -> String {
     text
 }
 
-/// The line of an offer, without its request.
-pub fn line(offer: &Offer, indexed: bool) -> String {
+fn line(offer: &Offer, indexed: bool) -> String {
     let bold = if offer.embolden { 'b' } else { '-' };
     let mut line = format!("{} {} {bold} {}", offer.family, offer.place, offer.skew);
     if indexed {
@@ -128,12 +127,14 @@ pub fn jobs(list: &[u8]) -> Vec<&[u8]> {
     jobs
 }
 
-/// The fonts of a list, each a 32-bit length, the file, and its font number.
+/// The fonts of a list, each a 32-bit length, the file, a 32-bit reading, which
+/// is passed over, and the font number.
 pub fn numbered_fonts(list: &[u8]) -> Vec<(&[u8], u16)> {
     let mut fonts = Vec::new();
     let mut rest = list;
     while let Some((length, after)) = rest.split_first_chunk::<4>() {
         let (file, after) = after.split_at(u32::from_be_bytes(*length) as usize);
+        let (_, after) = after.split_at(4);
         let (number, next) = after.split_first_chunk().expect("the number is there");
         fonts.push((file, u16::from_be_bytes(*number)));
         rest = next;
