@@ -65,10 +65,11 @@ macro_rules! readings {
     () => {
         "\
 A stem like / leans right. A request counts that above zero (oblique:12), and a
-font below zero, in its post table and on its axis slnt. With --reading opentype a
-font's number is turned where it meets a request's, so that oblique:12 gets the
-face that leans right, and sets slnt to -12. With --reading stored it is copied, as
-fontique does: such a face counts as leaning left, and slnt is set to 12.
+font below zero, in its post table and on its axis slnt. With --reading opentype
+a font's number is turned where it meets a request's, so that oblique:12 gets the
+face that leans right, and sets slnt to -12: take that for new work. With
+--reading stored it is copied, as fontique does: such a face counts as leaning
+left, and slnt is set to 12.
 "
     };
 }

@@ -14,7 +14,7 @@ use std::{
 
 use stemhook::{
     Angle, Attributes, BuildError, FaceId, FontFault, FontFile, Job, JobBuilder, Offer, Problem,
-    Refusal, Request, RequestId, Style, Tag, face_count,
+    Reading, Refusal, Request, RequestId, Style, Tag, face_count,
 };
 
 const DEJAVU: &str = "truetype/dejavu";
@@ -52,6 +52,14 @@ const ROMAN_AND_ITALIC: [&str; 2] = [
     "truetype/inter-vf/Inter-italic.var.ttf",
 ];
 
+/// Solothurn: two weights, each upright and oblique.
+const UPRIGHT_AND_OBLIQUE: [&str; 4] = [
+    "truetype/adf/Solothurn-Regular.otf",
+    "truetype/adf/Solothurn-Oblique.otf",
+    "truetype/adf/Solothurn-Bold.otf",
+    "truetype/adf/Solothurn-BoldOblique.otf",
+];
+
 /// WenQuanYi Micro Hei: a collection of two fonts that share most tables.
 const COLLECTION: [&str; 1] = ["truetype/wqy/wqy-microhei.ttc"];
 
@@ -65,6 +73,7 @@ fn folder(test: &str) -> Option<PathBuf> {
         &LIGHT_TO_BOLD,
         &SLANTING,
         &ROMAN_AND_ITALIC,
+        &UPRIGHT_AND_OBLIQUE,
         &COLLECTION,
     ];
     let missing = used
@@ -117,7 +126,19 @@ fn offers(folder: &Path, families: &[&[&str]], attributes: Attributes) -> Vec<Of
 
 /// The first offer of a family, and its file.
 fn first<'a>(folder: &Path, files: &[&'a str], attributes: Attributes) -> (Offer, &'a str) {
-    let offer = offers(folder, &[files], attributes)[0];
+    first_under(Reading::AsStored, folder, files, attributes)
+}
+
+/// The same under a reading.
+fn first_under<'a>(
+    reading: Reading,
+    folder: &Path,
+    files: &[&'a str],
+    attributes: Attributes,
+) -> (Offer, &'a str) {
+    let job = job(folder, &[files], attributes).with_reading(reading);
+    let offer = job.offer(RequestId::new(0), 0).unwrap();
+    let offer = offer.expect("a family of faces offers some");
     (offer, files[usize::from(offer.place)])
 }
 
@@ -227,21 +248,132 @@ fn a_variable_family_is_set_to_the_weight_asked_for() {
     assert!(as_it_is(&offer));
 }
 
+/// Inter's axis runs from -10 to 0, and leans right: under the first reading the
+/// value lies past its end.
 #[test]
 fn a_slant_axis_stands_in_for_italic_and_oblique() {
     let Some(folder) = folder("a_slant_axis_stands_in_for_italic_and_oblique") else {
         return;
     };
-    let slant = |style: Style| {
-        let (offer, _) = first(&folder, &SLANTING, attributes(1.0, style, 800.0));
+    let slant = |style: Style, reading: Reading| {
+        let asked = attributes(1.0, style, 800.0);
+        let (offer, _) = first_under(reading, &folder, &SLANTING, asked);
         assert_eq!(offer.skew, 0);
         assert_eq!(offer.settings.value(Tag::WGHT), Some(800.0));
         offer.settings.value(Tag::SLNT)
     };
-    assert_eq!(slant(Style::Italic), Some(14.0));
-    assert_eq!(slant(Style::Oblique(Angle::Unstated)), Some(14.0));
-    assert_eq!(slant(Style::Oblique(Angle::Degrees(9.5))), Some(9.5));
-    assert_eq!(slant(Style::Normal), None);
+    for (style, degrees) in [
+        (Style::Italic, 14.0),
+        (Style::Oblique(Angle::Unstated), 14.0),
+        (oblique(9.5), 9.5),
+        (oblique(12.0), 12.0),
+        (oblique(-9.0), -9.0),
+    ] {
+        assert_eq!(slant(style, Reading::AsStored), Some(degrees));
+        assert_eq!(slant(style, Reading::OpenType), Some(-degrees));
+    }
+    for reading in common::READINGS {
+        assert_eq!(slant(Style::Normal, reading), None);
+    }
+}
+
+fn oblique(degrees: f32) -> Style {
+    Style::Oblique(Angle::Degrees(degrees))
+}
+
+/// The fsSelection of a font, and the angle in its `post` table as a 16.16
+/// number.
+fn slope(file: &[u8]) -> (u16, i32) {
+    let selection = table(file, 0, b"OS/2").start + 62;
+    let angle = word(file, table(file, 0, b"post").start + 4);
+    let selection = u16::from_be_bytes([file[selection], file[selection + 1]]);
+    (selection, angle as u32 as i32)
+}
+
+#[test]
+fn obliques_are_such_and_lean_right() {
+    let Some(folder) = folder("obliques_are_such_and_lean_right") else {
+        return;
+    };
+    for file in UPRIGHT_AND_OBLIQUE {
+        let (selection, angle) = slope(&font(&folder, file));
+        let is_oblique = file.contains("Oblique");
+        assert_eq!(selection & (1 << 9) != 0, is_oblique, "{file}");
+        assert_eq!(selection & 1, 0, "{file}");
+        let expected = if is_oblique { -10 << 16 } else { 0 };
+        assert_eq!(angle, expected, "{file}");
+    }
+}
+
+/// Of a family with obliques, a request for a lean to the right gets one under
+/// the second reading. Under the first they count as leaning left, and an
+/// upright face is skewed.
+#[test]
+fn an_oblique_is_chosen_for_its_lean() {
+    let Some(folder) = folder("an_oblique_is_chosen_for_its_lean") else {
+        return;
+    };
+    let (bold, leaning) = (UPRIGHT_AND_OBLIQUE[2], UPRIGHT_AND_OBLIQUE[3]);
+    for (degrees, reading, expected) in [
+        (12.0, Reading::OpenType, (leaning, 0)),
+        (12.0, Reading::AsStored, (bold, 12)),
+        (-12.0, Reading::OpenType, (bold, -12)),
+        (-12.0, Reading::AsStored, (leaning, 0)),
+    ] {
+        let asked = attributes(1.0, oblique(degrees), 700.0);
+        let (offer, file) = first_under(reading, &folder, &UPRIGHT_AND_OBLIQUE, asked);
+        assert_eq!((file, offer.skew), expected, "{degrees}, {reading:?}");
+        assert!(!offer.embolden && offer.settings.is_empty());
+    }
+}
+
+/// A font with the opposite angle in its `post` table.
+fn turned(file: &[u8]) -> Vec<u8> {
+    let (_, angle) = slope(file);
+    let mut file = file.to_vec();
+    let at = table(&file, 0, b"post").start + 4;
+    file[at..at + 4].copy_from_slice(&(-angle).to_be_bytes());
+    file
+}
+
+/// The name of the font that is offered first, as it is, for an oblique.
+fn offered(fonts: [FontFile<'_>; 2], degrees: f32, reading: Reading) -> String {
+    let mut builder = JobBuilder::new();
+    let faces = fonts.map(|font| builder.face(font).unwrap());
+    let request = Request {
+        attributes: attributes(1.0, oblique(degrees), 400.0),
+        families: vec![builder.family(&faces).unwrap()],
+        ..Request::default()
+    };
+    let request = builder.request(&request).unwrap();
+    let job = builder.build().unwrap().with_reading(reading);
+    let offer = job.offer(request, 0).unwrap().unwrap();
+    assert!(as_it_is(&offer));
+    job.font(&offer).unwrap().name.to_owned()
+}
+
+/// A face that leans right beside a copy of it whose angle says that it leans
+/// left.
+#[test]
+fn an_oblique_beside_one_that_leans_the_other_way() {
+    let Some(folder) = folder("an_oblique_beside_one_that_leans_the_other_way") else {
+        return;
+    };
+    let right = font(&folder, UPRIGHT_AND_OBLIQUE[1]);
+    let left = turned(&right);
+    let right = FontFile::new(&right).named("right");
+    let left = FontFile::new(&left).named("left");
+    for (degrees, reading, expected) in [
+        (12.0, Reading::OpenType, "right"),
+        (12.0, Reading::AsStored, "left"),
+        (-12.0, Reading::OpenType, "left"),
+        (-12.0, Reading::AsStored, "right"),
+    ] {
+        for fonts in [[right, left], [left, right]] {
+            let name = offered(fonts, degrees, reading);
+            assert_eq!(name, expected, "{degrees}, {reading:?}");
+        }
+    }
 }
 
 #[test]

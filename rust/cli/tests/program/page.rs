@@ -165,7 +165,7 @@ fn axes_are_set_and_marked() {
 /// which reading it is; the usual one it does not say.
 #[test]
 fn the_reading_is_on_the_page() {
-    let folder = Folder::with_two("page-reading");
+    let folder = Folder::with_two("page-turned");
     let usual = page_of_two(&folder, &[]);
     assert_eq!(page_of_two(&folder, &["--reading=stored"]), usual);
     assert!(!usual.contains("reading"));

@@ -13,6 +13,8 @@ use crate::{
 const DEJAVU: &str = "truetype/dejavu";
 const CANTARELL: &str = "opentype/cantarell";
 const INTER: &str = "truetype/inter-vf";
+/// Solothurn lies here, perhaps with other fonts.
+const ADF: &str = "truetype/adf";
 /// A collection of two fonts lies here.
 const WQY: &str = "truetype/wqy";
 
@@ -64,6 +66,51 @@ fn the_files_that_are_offered() {
         format!("  {cantarell}/Cantarell-Regular.otf: embolden, skew 12"),
     ];
     assert_eq!(lines, expected);
+}
+
+/// Inter's slant axis leans right under the other reading; a skew does under
+/// both.
+#[test]
+fn a_slant_axis_leans_right() {
+    let Some([dejavu, _, inter]) = folders("a_slant_axis_leans_right") else {
+        return;
+    };
+    let inter = format!("{inter}/Inter.var.ttf");
+    let sans = format!("{dejavu}/DejaVuSans.ttf");
+    for (reading, value) in [("stored", 12), ("opentype", -12)] {
+        let words = ["pick", &inter, "--fallback", &sans, "--style=oblique:12"];
+        let said = stemhook([&words[..], &["--reading", reading]].concat()).well();
+        let lines = said.lines().map(|line| line.split(';').next().unwrap());
+        let expected = [
+            "request 0: width 1, oblique 12, weight 400".to_owned(),
+            format!("  {inter}: slnt={value}"),
+            format!("  {sans}: skew 12"),
+        ];
+        assert_eq!(lines.collect::<Vec<_>>(), expected, "{reading}");
+    }
+}
+
+/// A static oblique is offered for the lean that it has under the other
+/// reading; under the usual one it counts as leaning left, and the upright face
+/// is skewed.
+#[test]
+fn an_oblique_leans_right() {
+    let Some([adf]) = these("an_oblique_leans_right", [ADF]) else {
+        return;
+    };
+    let [bold, oblique] = ["Bold", "BoldOblique"].map(|end| format!("{adf}/Solothurn-{end}.otf"));
+    for (reading, face, done, angle) in [
+        ("stored", &bold, "skew 12", -10),
+        ("opentype", &oblique, "as it is", 10),
+    ] {
+        let words = ["pick", "--weight=700", "--style=oblique:12", "--most=1"];
+        let files = ["--reading", reading, &bold, &oblique];
+        let said = stemhook([&words[..], &files].concat()).well();
+        assert!(said.contains(&format!("\n  {face}: {done};")), "{said}");
+        let said = stemhook(["list", "--reading", reading, &oblique]).well();
+        let start = format!("{oblique}: width 1, oblique {angle}, weight 700;");
+        assert!(said.starts_with(&start), "{said}");
+    }
 }
 
 /// What `list` says of a charmap is what the picker offers, file by file.
