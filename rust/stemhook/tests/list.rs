@@ -31,7 +31,7 @@ fn every_stored_job_is_answered_as_stored() {
         turned += usize::from(texts[0] != texts[1]);
     }
     assert_eq!(rest, "", "answers are left");
-    assert!(turned > 50, "only {turned} jobs are answered in two ways");
+    assert!(turned > 20, "only {turned} jobs are answered in two ways");
 }
 
 #[test]
