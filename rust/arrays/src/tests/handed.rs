@@ -45,9 +45,9 @@ fn rows_that_are_handed_over_and_loaded() {
         "job: &[u8]",
         "job: &[u8], table: [[u32; 5]; 64]",
     );
-    let old = "call::offer_at(job, self.request, self.next)";
-    let new =
-        "call::answer_found(job, call::search_with(job, &mut table, self.request, self.next))";
+    let old = "call::offer_at(job, reading, self.request, self.next)";
+    let new = "call::answer_found(job, reading, \
+        call::search_with(job, reading, &mut table, self.request, self.next))";
     planted.change(CURSOR, "step", old, new).finds_nothing();
 }
 

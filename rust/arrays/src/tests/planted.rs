@@ -274,7 +274,8 @@ fn an_array_by_value_handed_on() {
 fn a_copy_of_the_family() {
     let planted = real().behind(MATCHING, "match_font", ROWS, "let copy = fonts;");
     planted.finds("matching::matching::match_font", "`copy`: [FontInfo; 64]");
-    let at = "let walked = loading::load(job, &mut *rows, &mut families, request as usize);";
+    let at =
+        "let walked = loading::load(job, reading, &mut *rows, &mut families, request as usize);";
     let lent = "let copy = [[0u32; 5]; 64];";
     let planted = real().behind(CALL, "search_with", at, lent);
     planted.finds("query::call::search_with", "`copy`: [[u32; 5]; 64]");
@@ -369,8 +370,9 @@ fn a_family_that_is_more() {
     let planted = real().change(CALL, "answer_many", at, longer);
     planted.finds("query::call::answer_many", "is not one list of up to 256");
     let swapped = "let mut other = [[0u32; COLUMNS]; 64];
-        let walked = loading::load(job, &mut other, &mut families, request as usize);";
-    let at = "let walked = loading::load(job, &mut *rows, &mut families, request as usize);";
+        let walked = loading::load(job, reading, &mut other, &mut families, request as usize);";
+    let at =
+        "let walked = loading::load(job, reading, &mut *rows, &mut families, request as usize);";
     let planted = real().change(CALL, "search_with", at, swapped);
     planted.finds(
         "query::call::search_with",
@@ -426,9 +428,10 @@ fn an_array_that_a_reference_keeps() {
 
 #[test]
 fn two_families_at_once() {
-    let at = "let walked = loading::load(job, &mut *rows, &mut families, request as usize);";
+    let at =
+        "let walked = loading::load(job, reading, &mut *rows, &mut families, request as usize);";
     let other = "let mut other = [[0u32; COLUMNS]; 64];
-        let first = loading::load(job, &mut other, &mut families, request as usize);";
+        let first = loading::load(job, reading, &mut other, &mut families, request as usize);";
     let planted = real().before(CALL, "search_with", at, other);
     planted.finds("query::call::offer", "two families are alive at `other`");
     let more = real().change(

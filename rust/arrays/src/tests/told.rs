@@ -176,7 +176,8 @@ fn a_further_public_way() {
 
 #[test]
 fn a_job_that_is_loaded_in_a_loop_or_from_elsewhere() {
-    let at = "let walked = loading::load(job, &mut *rows, &mut families, request as usize);";
+    let at =
+        "let walked = loading::load(job, reading, &mut *rows, &mut families, request as usize);";
     let looped = format!("while false {{ {at} }}\n    {at}");
     let planted = real().change("query/call", "search_with", at, &looped);
     planted.finds("query::loading::load", "a job is loaded in a loop");
@@ -218,7 +219,7 @@ fn rows_that_the_caller_lends() {
     let old = "job: &[u8]";
     let new = "job: &[u8], table: &mut [[u32; 5]]";
     let step = real().change("query/cursor", "step", old, new);
-    let found = "let found = call::search_with(job, &mut *table, 0, 0);";
+    let found = "let found = call::search_with(job, reading, &mut *table, 0, 0);";
     let at = "let answer = call::offer_at";
     let step = step.before("query/cursor", "step", at, found);
     step.finds(
