@@ -3,9 +3,32 @@
 mod common;
 
 use common::Random;
-use stemhook::{Job, Offer, Reading, Refusal, check, offer, offer_bytes};
+use stemhook::{Job, Offer, Reading, Refusal, Refused, check, offer, offer_bytes};
 
-/// All calls on a job: they agree, and write only with an offer.
+/// Some offer calls on a job: they answer as the check call does, and write only
+/// with an offer. Under what is no reading nothing of the job is looked at.
+fn try_offers(job: &[u8], checked: Result<(), Refused>, random: &mut Random) {
+    let request = random.of(&[0, 0, 1, 2, random.0 as u32, u32::MAX]);
+    let number = random.of(&[0, 1, 2, random.0 as u32, u32::MAX]);
+    let reading = random.of(&[0, 0, 1, 1, 2, random.0 as u32, u32::MAX]);
+    let mut out = [0x77; 40];
+    let answer = offer_bytes(job, reading, request, number, &mut out);
+    assert_eq!(answer == Ok(true), out != [0x77; 40]);
+    match (checked, answer) {
+        _ if Reading::try_from(reading).is_err() => {
+            let refused = answer.unwrap_err();
+            assert_eq!(refused.refusal(), Refusal::UnknownOrSpare);
+            assert_eq!(refused.position(), None);
+        }
+        (Err(refused), answer) => assert_eq!(answer, Err(refused)),
+        (Ok(()), Err(refused)) => assert_eq!(refused.refusal(), Refusal::NoSuchRequest),
+        (Ok(()), Ok(_)) => {}
+    }
+    let by_value = offer(job, reading, request, number);
+    assert_eq!(by_value.map(|found| found.is_some()), answer);
+}
+
+/// All calls on a job: they agree.
 fn try_all(job: &[u8], random: &mut Random) -> bool {
     let checked = check(job);
     if let Err(refused) = checked {
@@ -15,24 +38,7 @@ fn try_all(job: &[u8], random: &mut Random) -> bool {
         assert!(refused.to_string().starts_with("refused "));
     }
     for _ in 0..3 {
-        let request = random.of(&[0, 0, 1, 2, random.0 as u32, u32::MAX]);
-        let number = random.of(&[0, 1, 2, random.0 as u32, u32::MAX]);
-        let reading = random.of(&[0, 0, 1, 1, 2, random.0 as u32, u32::MAX]);
-        let mut out = [0x77; 40];
-        let answer = offer_bytes(job, reading, request, number, &mut out);
-        assert_eq!(answer == Ok(true), out != [0x77; 40]);
-        match (Reading::try_from(reading), checked, answer) {
-            (Err(_), _, answer) => {
-                let refused = answer.unwrap_err();
-                assert_eq!(refused.refusal(), Refusal::UnknownOrSpare);
-                assert_eq!(refused.position(), None);
-            }
-            (Ok(_), Err(refused), answer) => assert_eq!(answer, Err(refused)),
-            (Ok(_), Ok(()), Err(refused)) => assert_eq!(refused.refusal(), Refusal::NoSuchRequest),
-            (Ok(_), Ok(()), Ok(_)) => {}
-        }
-        let by_value = offer(job, reading, request, number);
-        assert_eq!(by_value.map(|found| found.is_some()), answer);
+        try_offers(job, checked, random);
     }
     match Job::new(job) {
         Err(refused) => assert_eq!(checked, Err(refused)),
