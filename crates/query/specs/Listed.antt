@@ -26,7 +26,7 @@ use Rattle.query.specs.Job.{jobOf}
 use Rattle.query.specs.View.{familiesOf, viewOf}
 use Rattle.query.specs.Values.{faceAt, requestAt}
 use Rattle.query.specs.Offers.{familyOffers, offers, offersOf, faceOfOffer, offerAt}
-use Rattle.query.specs.CallTables.{isHeld, heldRow, knownOf, FontTaken, OfferedFace, membersIn}
+use Rattle.query.specs.CallTables.{isHeld, heldRow, knownOf, FontTaken, OfferedFace, RowsShow, membersIn}
 
 -- a family of at most 64 faces, each with one of so many rows, as it lies at a position
 pub record MembersKnown (s : List ℕ) (p rows : ℕ) : Type 0 where
@@ -120,3 +120,7 @@ pub record SearchAnswer (reading : ℕ) (s : List ℕ) (f : SearchResult) (a : A
 pub record LeadsTo (reading : ℕ) (s : List ℕ) (a : Answer) (f : SearchResult) : Type 0 where
   pub readable : f .result ≡ 0 → Readable s f
   pub leads : {r : Answer} → SearchAnswer reading s f r → r ≡ a
+
+-- to the answer to the request that lies at a position, under the reading that the rows are of
+abbrev pub LeadsByRows : List ℕ → List (List ℕ) → ℕ → ℕ → SearchResult → Type 0
+LeadsByRows s rows p n f = (reading : ℕ) → RowsShow reading s rows → LeadsTo reading s (answerAt reading s p n) f

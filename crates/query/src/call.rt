@@ -1,15 +1,15 @@
 // The offer call.
 ghost use mathlib.Core.Path.{_≡_};
 ghost use mathlib.Core.Bool.{true, cond};
-ghost use Prim.Native.Nat.{ℕ, _≤_, _<_};
+ghost use Prim.Native.Nat.{_≤_, _<_};
 ghost use lib.Dec.{leb};
 ghost use lib.ListN.{length};
 ghost use Rattle.font.specs.Slant.{isReading};
 ghost use Rattle.font.specs.Tables.{u16At};
 ghost use Rattle.matching.specs.Synthesis.{synthesized, variesOf};
 ghost use Rattle.query.specs.Sizes.{fewFaces, mostBytes};
-ghost use Rattle.query.specs.CallTables.{Room, RowsShow, TablesOf, Uncounted};
-ghost use Rattle.query.specs.Listed.{SectionIn, Names, answerAt, Readable, Locates, SearchAnswer, LeadsTo};
+ghost use Rattle.query.specs.CallTables.{Room, TablesOf, Uncounted};
+ghost use Rattle.query.specs.Listed.{SectionIn, Names, Readable, Locates, SearchAnswer, LeadsTo, LeadsByRows};
 ghost use Rattle.query.specs.Call.{withoutOffer, withSynthesis, answerCall, offerCall, Calls};
 ghost use Rattle.query.specs.Demands.{Demands};
 use crate::answer::Answer;
@@ -136,7 +136,7 @@ fn search_request(
 ) -> SearchResult
     requires { ⌜ TablesOf (now job) (now rows) (now families) × Uncounted (now families) × SectionIn (now job) (walked .overrides) ⌝ }
     requires { ⌜ walked .request < length (now job) ⌝ }
-    ensures { λ r. ⌜ ((reading : ℕ) → RowsShow reading (now (job .entry)) (now (rows .entry)) → LeadsTo reading (now (job .entry)) (answerAt reading (now (job .entry)) (walked .request) n) r) ⌝ }
+    ensures { λ r. ⌜ LeadsByRows (now (job .entry)) (now (rows .entry)) (walked .request) n r ⌝ }
 {
     let at = walked.request;
     let wanted = values::attributes_at(job, at + sizes::REQUEST_ATTRIBUTES);
