@@ -17,7 +17,7 @@ use Rattle.font.specs.Tables.{u16At, u32At, tableData}
 use Rattle.font.specs.Collection.{fontStart}
 use Rattle.font.specs.StatedAttributes.{present, bit, widthOfClass, postAngle, os2Style, fromOs2Post, headStyle, headWeight, fromHead, fromTables, losesNeeded, readAttributes}
 use Rattle.font.specs.Font.{emptyFont, fontRefusal, refusalUnder, faceOf, checkedBy, fromFontRef}
-use Rattle.font.specs.TwoReadings.{Edges, TwoReadings}
+use Rattle.font.specs.TwoReadings.{Edges, Old, TwoReadings}
 
 pub edges : Edges
 unfolding slantUnder opposite fixedToSingle single ofInt round neg eq
@@ -89,13 +89,20 @@ face-same file number = go (eqb (fontRefusal file number) 0)
     go true = rw (tables-same file start)
     go false = rw (← default-same)
 
+-- ---- reading 0, by computing
+
+old-kept : (file : List ℕ) (number : ℕ) → Old file number
+unfolding postAngle os2Style fromOs2Post slantUnder fromTables readAttributes isReading faceOf fromFontRef refusalUnder checkedBy
+old-kept file number =
+    record { attributes = λ os2 post. refl; tables = λ start. refl; stated = λ start. refl; face = λ start. refl; font = refl }
+
 -- ---- the statement
 
 pub two-readings : (file : List ℕ) (number : ℕ) → TwoReadings file number
-unfolding postAngle slantUnder readAttributes isReading fromFontRef refusalUnder checkedBy
+unfolding readAttributes isReading fromFontRef refusalUnder checkedBy
 two-readings file number =
     record {
-      old = λ post. refl;
+      old = old-kept file number;
       attributes = λ k. rw (k, tables-same file (fontStart file number));
       face = face-same file number;
       refusal = λ reading k. rw k;

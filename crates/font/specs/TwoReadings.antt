@@ -5,17 +5,20 @@ use mathlib.Core.Path.{_≡_}
 use mathlib.Core.Bool.{true, false, cond}
 use mathlib.Core.List.{List}
 use lib.IntN.{negℤ}
-use lib.Dec.{T}
+use lib.Dec.{T, eqb}
 use lib.Ieee.{Float, binary32, fits, eq, neg}
 use lib.Ieee.Scale.{finite}
 use Rattle.font.specs.declared.attributes.Angle.the-variants.{Unstated, Degrees}
+use Rattle.font.specs.declared.attributes.FontStyle.the-variants.{Normal, Italic, Oblique}
 use Rattle.font.specs.declared.font.FontAttributes.the-variants.{Refused, Stated}
 use Rattle.font.specs.Single.{single, orderNumber, fixedToSingle}
-use Rattle.font.specs.Tables.{u32At}
+use Rattle.font.specs.Attributes.{attributesOf, defaultAttributes}
+use Rattle.font.specs.Tables.{u16At, u32At, tableData}
 use Rattle.font.specs.Collection.{fontStart}
+use Rattle.font.specs.Charmap.{charmapIndex}
 use Rattle.font.specs.Slant.{isReading, opposite, slantUnder, oppositeAttributes, oppositeFace}
-use Rattle.font.specs.StatedAttributes.{present, postAngle, fromTables, losesNeeded, readAttributes}
-use Rattle.font.specs.Font.{emptyFont, fontRefusal, fromFontRef}
+use Rattle.font.specs.StatedAttributes.{present, bit, widthOfClass, fromOs2Post, fromHead, fromTables, losesNeeded, readAttributes}
+use Rattle.font.specs.Font.{fvarOf, axisCount, axesOf, noIndex, indexOr, emptyFont, fontRefusal, faceOf, fromFontRef}
 
 -- ---- a number and its opposite
 
@@ -38,9 +41,37 @@ pub record Edges : Type 0 where
 
 -- ---- the font of a number
 
+-- Reading 0 is all that stood: each definition computes to section 2's sentence, which has no reading.
+pub record Old (file : List ℕ) (number : ℕ) : Type 0 where
+  pub attributes : (os2 post : List ℕ)
+      → fromOs2Post 0 os2 post
+      ≡ attributesOf (widthOfClass (u16At os2 6))
+        (cond (bit 0 (u16At os2 62)) Italic
+        (cond (bit 9 (u16At os2 62)) (Oblique (cond (present post) (Degrees (fixedToSingle (u32At post 4))) Unstated))
+        Normal))
+        (single (u16At os2 4))
+  pub tables : (start : ℕ)
+      → fromTables 0 file start
+      ≡ cond (present (tableData file start 0x4F532F32 78)) (fromOs2Post 0 (tableData file start 0x4F532F32 78) (tableData file start 0x706F7374 32))
+        (cond (present (tableData file start 0x68656164 54)) (fromHead (tableData file start 0x68656164 54))
+        defaultAttributes)
+  pub stated : (start : ℕ) → readAttributes 0 file start ≡ cond (losesNeeded file start) (Refused 31) (Stated (fromTables 0 file start))
+  pub face : (start : ℕ)
+      → faceOf 0 file start
+      ≡ record {
+          attributes = fromTables 0 file start;
+          axes = axesOf (fvarOf file start) (axisCount (fvarOf file start));
+          «axis_count» = axisCount (fvarOf file start);
+          «charmap_index» = indexOr noIndex (charmapIndex file start);
+        }
+  pub font : fromFontRef 0 file number
+      ≡ record {
+          refusal = fontRefusal file number;
+          font = cond (eqb (fontRefusal file number) 0) (faceOf 0 file (fontStart file number)) emptyFont;
+        }
+
 pub record TwoReadings (file : List ℕ) (number : ℕ) : Type 0 where
-  -- reading 0: section 2's sentence
-  pub old : (post : List ℕ) → postAngle 0 post ≡ cond (present post) (Degrees (fixedToSingle (u32At post 4))) Unstated
+  pub old : Old file number
   -- reading 1: the same face with its stated angle negated
   pub attributes : losesNeeded file (fontStart file number) ≡ false
       → readAttributes 1 file (fontStart file number) ≡ Stated (oppositeAttributes (fromTables 0 file (fontStart file number)))

@@ -306,9 +306,9 @@ fn index_or_none(file: &[u8], start: usize) -> CharmapIndex
     }
 }
 
-// The face of the font of a number, which `font_refusal` does not refuse.
+// The face of the font of a number under a reading, which `from_font_ref` does not refuse.
 pub fn read_font(file: &[u8], reading: u32, number: u16) -> FontInfo
-    requires { ⌜ fontRefusal (now file) number ≡ 0 ⌝ }
+    requires { ⌜ refusalUnder reading (now file) number ≡ 0 ⌝ }
     ensures { λ r. ⌜ r ≡ faceOf reading (now (file .entry)) (fontStart (now (file .entry)) number) ⌝ }
 {
     let start = font_start(file, number);
@@ -404,9 +404,10 @@ fn states_axis(file: &[u8], start: usize, tag: u32) -> bool
     axis_record(fvar, count, tag) < count
 }
 
-// The attributes that the font of a number states, and whether it gives an axis with the tag. `font_refusal` does not refuse it.
+// The attributes that the font of a number states under a reading, and whether it gives an axis with the tag.
+// `from_font_ref` does not refuse it.
 pub fn read_stated(file: &[u8], reading: u32, number: u16, tag: u32) -> Stated
-    requires { ⌜ fontRefusal (now file) number ≡ 0 ⌝ }
+    requires { ⌜ refusalUnder reading (now file) number ≡ 0 ⌝ }
     ensures { λ r. ⌜ r ≡ statedAt reading (now (file .entry)) (fontStart (now (file .entry)) number) tag ⌝ }
 {
     let start = font_start(file, number);

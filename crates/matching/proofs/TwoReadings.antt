@@ -25,7 +25,7 @@ use Rattle.matching.specs.Order.{zeroAngle}
 use Rattle.matching.specs.Matching.{axisAt, axisCount, axisPlace, hasAxis, slnt}
 use Rattle.matching.specs.Synthesis.{wdth, wght, ital, widthSetting, weightSetting, emboldened, degreesOf, leansRight, italicLean, obliqueLean, leanOf, settingOf, skewOf, unvaried, put, added, synthesized, variesOf, synthesisRefusal, synthesisOf, oppositeValues, oppositeSlant}
 use Rattle.matching.specs.Faces.{faceWith, styled, slanting, stated, forStyle}
-use Rattle.matching.specs.TwoReadings.{TwoReadings, setTo, italicized, made, SlantsToTry}
+use Rattle.matching.specs.TwoReadings.{Old, TwoReadings, setTo, italicized, made, SlantsToTry}
 
 -- ---- the lean
 
@@ -114,12 +114,16 @@ by-value-same font a = go (cond (eqb (faceRefusal font) 0) (cond (acceptedAttrib
         ≡ oppositeSlant (cond (eqb n 0) (synthesized 0 (font .attributes) (variesOf font) a) (unvaried n false (pos 0)))
     go n = either (eqb n 0) n
 
+-- by computing
+old-kept : Old
+unfolding leanOf italicLean obliqueLean slantUnder synthesized synthesisRefusal isReading synthesisOf
+old-kept = record { italic = λ v. refl; oblique = λ v a. refl; in-order = λ own v a. refl; refusal = λ font a. refl; by-value = λ font a. refl }
+
 pub two-readings : TwoReadings
-unfolding italicLean obliqueLean slantUnder synthesisOf synthesisRefusal
+unfolding synthesisOf synthesisRefusal
 two-readings =
     record {
-      italic = λ v. refl;
-      oblique = λ v d. refl;
+      old = old-kept;
       opposite = opposite-same;
       by-value = by-value-same;
       unknown = λ reading font a e. rw e;

@@ -4,11 +4,14 @@ use Prim.Native.Nat.{ℕ}
 use mathlib.Core.Path.{_≡_}
 use mathlib.Core.Bool.{Bool, true, false, cond}
 use mathlib.Core.List.{List, [], _∷_}
+use lib.Dec.{eqb}
 use lib.IntN.{pos, negsuc}
 use lib.Ieee.{Float, neg, toSigned}
 use Rattle.font.specs.Single.{single}
-use Rattle.font.specs.Attributes.{attributesOf}
+use Rattle.font.specs.Attributes.{attributesOf, acceptedAttributes}
 use Rattle.font.specs.Slant.{isReading}
+use Rattle.font.specs.Overrides.{faceRefusal}
+use Rattle.font.specs.declared.attributes.Angle.{Angle}
 use Rattle.font.specs.declared.attributes.Angle.the-variants.{Unstated}
 use Rattle.font.specs.declared.attributes.FontStyle.{FontStyle}
 use Rattle.font.specs.declared.attributes.FontStyle.the-variants.{Normal, Italic, Oblique}
@@ -18,14 +21,32 @@ use Rattle.matching.specs.declared.synthesis.Lean.the-variants.{Varied, 
 use Rattle.matching.specs.declared.synthesis.Varies.{Varies}
 use Rattle.matching.specs.declared.synthesis.Synthesis.{Synthesis}
 use Rattle.matching.specs.Matching.{slnt}
-use Rattle.matching.specs.Synthesis.{ital, italicLean, leansRight, obliqueLean, unvaried, synthesized, synthesisOf, oppositeSlant}
+use Rattle.matching.specs.Synthesis.{ital, widthSetting, weightSetting, emboldened, degreesOf, leansRight, leanOf, settingOf, skewOf, unvaried, added, synthesized, variesOf, synthesisRefusal, synthesisOf, oppositeSlant}
 use Rattle.matching.specs.Faces.{faceWith, styled, slanting, stated, forStyle}
 
+-- Reading 0 is all that stood: each definition computes to section 5's sentence, which has no reading.
+pub record Old : Type 0 where
+  pub italic : (v : Varies) → leanOf 0 v Normal Italic ≡ cond (v .italic) (Varied ital (single 1)) (cond (v .slant) (Varied slnt (single 14)) (Skewed (pos 14)))
+  pub oblique : (v : Varies) (a : Angle)
+      → leanOf 0 v Normal (Oblique a)
+      ≡ cond (v .slant) (Varied slnt (degreesOf a)) (cond (leansRight v (degreesOf a)) (Varied ital (single 1)) (Skewed (toSigned 7 (degreesOf a))))
+  pub in-order : (own : Attributes) (v : Varies) (a : Attributes)
+      → synthesized 0 own v a
+      ≡ added
+        (added
+        (added
+        (unvaried 0 (emboldened v (own .weight .value) (a .weight .value)) (skewOf (leanOf 0 v (own .style) (a .style))))
+        (widthSetting v (own .width .ratio) (a .width .ratio)))
+        (weightSetting v (a .weight .value)))
+        (settingOf (leanOf 0 v (own .style) (a .style)))
+  pub refusal : (font : FontInfo) (a : Attributes)
+      → synthesisRefusal 0 font a ≡ cond (eqb (faceRefusal font) 0) (cond (acceptedAttributes a) 0 26) (faceRefusal font)
+  pub by-value : (font : FontInfo) (a : Attributes)
+      → synthesisOf 0 font a
+      ≡ cond (eqb (synthesisRefusal 0 font a) 0) (synthesized 0 (font .attributes) (variesOf font) a) (unvaried (synthesisRefusal 0 font a) false (pos 0))
+
 pub record TwoReadings : Type 0 where
-  -- reading 0: section 5's sentences
-  pub italic : (v : Varies) → italicLean 0 v ≡ cond (v .italic) (Varied ital (single 1)) (cond (v .slant) (Varied slnt (single 14)) (Skewed (pos 14)))
-  pub oblique : (v : Varies) (d : Float)
-      → obliqueLean 0 v d ≡ cond (v .slant) (Varied slnt d) (cond (leansRight v d) (Varied ital (single 1)) (Skewed (toSigned 7 d)))
+  pub old : Old
   -- reading 1: the same synthesis with the value of `slnt` negated
   pub opposite : (own : Attributes) (v : Varies) (a : Attributes) → synthesized 1 own v a ≡ oppositeSlant (synthesized 0 own v a)
   pub by-value : (font : FontInfo) (a : Attributes) → synthesisOf 1 font a ≡ oppositeSlant (synthesisOf 0 font a)

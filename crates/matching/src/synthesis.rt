@@ -1,5 +1,7 @@
 // Synthesis: the variation settings, emboldening and skew that bring a face to a request.
 ghost use mathlib.Core.Path.{_≡_};
+ghost use mathlib.Core.Bool.{true};
+ghost use Rattle.font.specs.Slant.{isReading};
 ghost use Rattle.matching.specs.Synthesis.{widthSetting, weightSetting, emboldened, degreesOf, italicLean, leansRight, obliqueLean, leanOf, settingOf, skewOf, unvaried, put, added, synthesized};
 use crate::axes;
 use crate::order;
@@ -196,6 +198,7 @@ impl Synthesis {
 
 // The synthesis of a face with these attributes and axes, under a reading, for a request.
 pub fn synthesize(own: Attributes, varies: Varies, reading: u32, request: Attributes) -> Synthesis
+    requires { ⌜ isReading reading ≡ true ⌝ }
     ensures { λ r. ⌜ r ≡ synthesized reading own varies request ⌝ }
 {
     let own_style = own.style;

@@ -1,7 +1,7 @@
 -- The offer call, case by case: what each return of its code has to show.
 use Prim.Native.Nat.{ℕ, zero, suc, _+_, _-_, _^_, _≤_, _<_}
 use mathlib.Core.Path.{_≡_, refl, sym, ap, _∙_}
-use mathlib.Core.Bool.{Bool, true, false, not, _&&_, cond}
+use mathlib.Core.Bool.{Bool, true, false, cond}
 use mathlib.Core.List.{List, [], _∷_}
 use native.Mathlib.Omega.{arith}
 use lib.Dec.{leb, ltb, eqb}
@@ -43,7 +43,7 @@ use Rattle.query.specs.Values.{attributesAt, requestAt}
 use Rattle.query.specs.CallTables.{OfferedFace, RowsShow, TablesOf, LoadAnswer}
 use Rattle.query.specs.Listed.{listedAt, Names, answerAt, Locates, SearchAnswer, LeadsTo}
 use Rattle.query.specs.Record.{Numbers, recordBytes}
-use Rattle.query.specs.Call.{Called, withoutOffer, withSynthesis, answered, requestOfJob, viewAnswer, requestAnswer, jobAnswer, answerCall, written, unwritten, offerCall, Calls}
+use Rattle.query.specs.Call.{Called, withoutOffer, withSynthesis, answered, requestOfJob, viewAnswer, requestAnswer, jobAnswer, refusesReading, answerCall, written, unwritten, offerCall, Calls}
 use Rattle.query.proofs.AcceptedJobs.{accepted-is-a-layout}
 use Rattle.query.proofs.Checks.{accepted}
 use Rattle.query.proofs.RowFamilies.{rows-show}
@@ -306,7 +306,7 @@ module _ (s : List ℕ) (bytes : Bytes s) (reading : ℕ) where
 
   pub answer-writable : (k n : ℕ) {a : Answer} → a ≡ answerCall s reading k n → Writable a
   unfolding answerCall jobAnswer
-  answer-writable k n is = rw is (either (not (isReading reading) && leb (length s) mostBytes))
+  answer-writable k n is = rw is (either (refusesReading s reading))
     where
       go : (g : Got Job) → readJob s ≡ g → Writable (jobAnswer reading g k n)
       go (refused w p) e = none-writable (number w)

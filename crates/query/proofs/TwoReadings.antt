@@ -27,7 +27,7 @@ use Rattle.query.specs.View.{View, statedBy, viewBy, viewOf}
 use Rattle.query.specs.Offers.{facesOf, offersOf, faceOfOffer, synthesisOfOffer, offerAt}
 use Rattle.query.specs.Call.{withoutOffer, withSynthesis, answered, requestOfJob, viewAnswer, requestAnswer, answerCall}
 use Rattle.query.specs.Demands.{familyAt}
-use Rattle.query.specs.TwoReadings.{oppositeView, oppositeAnswer, TwoReadings}
+use Rattle.query.specs.TwoReadings.{oppositeView, oppositeAnswer, storedView, Old, TwoReadings}
 use Rattle.query.proofs.AcceptedJobs.{layout-is-accepted}
 use Rattle.query.proofs.AnswerCases.{no-fourth, called}
 
@@ -75,10 +75,26 @@ module _ (view : View) where
       go true = answered-same r (offerAt (offersOf view r) n)
       go false = none-same 28
 
+stored-same : (job : Job) → viewOf 0 job ≡ storedView job
+unfolding viewOf statedBy storedView
+stored-same job = refl
+
+old-kept : (job : Job) → JobFits job → Old job
+unfolding requestAnswer isReading synthesisOfOffer
+old-kept job fits =
+    record {
+      view = stored-same job;
+      synthesis = λ view r o. refl;
+      answers = λ k n.
+          called (layout job) 0 refl k n job _ (layout-is-accepted job fits)
+          ∙ ap (λ (view : View). viewAnswer 0 view job k n) (stored-same job);
+    }
+
 pub two-readings : (job : Job) → JobFits job → TwoReadings job
 unfolding requestAnswer isReading
 two-readings job fits =
     record {
+      old = old-kept job fits;
       order = λ f. ap (λ (view : View). familyOf (facesOf view f) (length (facesOf view f))) (view-same job);
       list = λ r. ap (λ (view : View). offersOf view r) (view-same job);
       synthesis = λ r o. ap (λ (view : View). synthesisOfOffer view 1 r o) (view-same job) ∙ synthesis-same (oppositeView job) r o;

@@ -1,6 +1,6 @@
 -- Section 6: the offer call: "job, request, offer number, 40-byte output", and the reading behind the job.
 use Prim.Native.Nat.{ℕ}
-use mathlib.Core.Bool.{false, not, _&&_, cond}
+use mathlib.Core.Bool.{Bool, false, not, _&&_, cond}
 use mathlib.Core.List.{List, []}
 use mathlib.Core.Path.{_≡_}
 use lib.Dec.{leb, ltb, eqb}
@@ -65,11 +65,13 @@ unfoldable pub jobAnswer : ℕ → Got Job → ℕ → ℕ → Answer
 jobAnswer reading (refused why p) k n = withoutOffer (number why)
 jobAnswer reading (got job p) k n = requestAnswer reading job k n
 
--- "First met, reading left to right: .. then the whole job, then Request." A reading that there is not is 25, "after 17": so where the job is not too long, and
--- before its first field.
+-- "another value is 25, after 17": so where the job is not too long
+abbrev pub refusesReading : List ℕ → ℕ → Bool
+refusesReading job reading = not (isReading reading) && leb (length job) mostBytes
+
+-- "First met, reading left to right: .. then the whole job, then Request." 25 for the reading comes before the job's first field.
 unfoldable pub answerCall : List ℕ → ℕ → ℕ → ℕ → Answer
-answerCall job reading k n =
-    cond (not (isReading reading) && leb (length job) mostBytes) (withoutOffer 25) (jobAnswer reading (readJob job) k n)
+answerCall job reading k n = cond (refusesReading job reading) (withoutOffer 25) (jobAnswer reading (readJob job) k n)
 
 -- ---- the call
 

@@ -3,7 +3,7 @@
 use mathlib.Core.Path.{sym, _∙_}
 use native.Mathlib.Omega.{arith}
 use Rattle.font.specs.Font.{fvarOf, faceOf}
-use Rattle.font.proofs.FaceOf.{fits-stated, few-read}
+use Rattle.font.proofs.FaceOf.{taken-under, fits-stated, few-read}
 use borrow.Author.Needs.{needs}
 use Rattle.font.proofs.font.read_font.Statement.{statement}
 use Rattle.font.proofs.font.read_font.Tie as tie
@@ -12,19 +12,19 @@ font-start-requires : tie.Need-font-start-requires
 font-start-requires c κs = search needs
 
 data-in-requires : tie.Need-data-in-requires
-data-in-requires c κs = rw (c .font-start .ensures) (fits-stated _ _ (c .before .before .pre))
+data-in-requires c κs = rw (c .font-start .ensures) (fits-stated _ _ (taken-under _ _ _ (c .before .before .pre) .1))
 
 axis-count-requires : tie.Need-axis-count-requires
 axis-count-requires c κs = search needs
 
 from-tables-requires : tie.Need-from-tables-requires
-from-tables-requires c κs = rw (c .before .before .font-start .ensures) (fits-stated _ _ (c .before .before .before .before .pre))
+from-tables-requires c κs = rw (c .before .before .font-start .ensures) (fits-stated _ _ (taken-under _ _ _ (c .before .before .before .before .pre) .1))
 
 read-axes-requires : tie.Need-read-axes-requires
-read-axes-requires c κs = few-read _ _ _ _ _ (c .before .before .before .before .before .pre) (c .before .before .before .font-start .ensures) (c .before .before .data-in .ensures) (c .before .axis-count .ensures .0)
+read-axes-requires c κs = few-read _ _ _ _ _ (taken-under _ _ _ (c .before .before .before .before .before .pre) .1) (c .before .before .before .font-start .ensures) (c .before .before .data-in .ensures) (c .before .axis-count .ensures .0)
 
 index-or-none-requires : tie.Need-index-or-none-requires
-index-or-none-requires c κs = rw (c .before .before .before .before .font-start .ensures) (fits-stated _ _ (c .before .before .before .before .before .before .pre))
+index-or-none-requires c κs = rw (c .before .before .before .before .font-start .ensures) (fits-stated _ _ (taken-under _ _ _ (c .before .before .before .before .before .before .pre) .1))
 
 returns : tie.Need-returns
 unfolding faceOf fvarOf

@@ -2,7 +2,7 @@
 -- Assumes nothing.
 use mathlib.Core.Path.{sym}
 use Rattle.font.specs.Font.{statedAt}
-use Rattle.font.proofs.FaceOf.{fits-stated}
+use Rattle.font.proofs.FaceOf.{taken-under, fits-stated}
 use borrow.Author.Needs.{needs}
 use Rattle.font.proofs.font.read_stated.Statement.{statement}
 use Rattle.font.proofs.font.read_stated.Tie as tie
@@ -11,10 +11,10 @@ font-start-requires : tie.Need-font-start-requires
 font-start-requires c κs = search needs
 
 from-tables-requires : tie.Need-from-tables-requires
-from-tables-requires c κs = rw (c .font-start .ensures) (fits-stated _ _ (c .before .before .pre))
+from-tables-requires c κs = rw (c .font-start .ensures) (fits-stated _ _ (taken-under _ _ _ (c .before .before .pre) .1))
 
 states-axis-requires : tie.Need-states-axis-requires
-states-axis-requires c κs = rw (c .before .font-start .ensures) (fits-stated _ _ (c .before .before .before .pre))
+states-axis-requires c κs = rw (c .before .font-start .ensures) (fits-stated _ _ (taken-under _ _ _ (c .before .before .before .pre) .1))
 
 returns : tie.Need-returns
 unfolding statedAt

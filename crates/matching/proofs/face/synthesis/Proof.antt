@@ -1,10 +1,16 @@
-use mathlib.Core.Path.{_≡_, sym, _∙_, ap}
+use mathlib.Core.Path.{_≡_, refl, sym, _∙_, ap}
+use native.Mathlib.Omega.{arith}
 use borrow.Author.Tests.{eq-eqb, ne-eqb}
 use Prim.Native.Nat.{ℕ}
-use mathlib.Core.Bool.{false, cond}
+use mathlib.Core.Bool.{Bool, true, false, cond}
 use lib.Dec.{eqb}
 use Rattle.matching.specs.declared.synthesis.Synthesis.{Synthesis}
 use lib.IntN.{pos}
+use Rattle.font.specs.declared.attributes.Attributes.{Attributes}
+use Rattle.font.specs.declared.font.FontInfo.{FontInfo}
+use Rattle.font.specs.Attributes.{acceptedAttributes}
+use Rattle.font.specs.Slant.{isReading}
+use Rattle.font.specs.Overrides.{faceRefusal}
 use Rattle.matching.specs.declared.synthesis.Varies.{Varies}
 use Rattle.matching.specs.Matching.{attributesFrom}
 use Rattle.matching.specs.Synthesis.{unvaried, synthesized, synthesisRefusal, synthesisOf}
@@ -17,6 +23,15 @@ skipped a {b} r d = rw (ne-eqb r 0 d)
 
 taken : {a : Synthesis} (b : Synthesis) (r : ℕ) → r ≡ 0 → cond (eqb r 0) a b ≡ a
 taken {a} b r e = rw (eq-eqb r 0 e)
+
+-- what is not refused has a reading
+known-reading : (reading : ℕ) (f : FontInfo) (a : Attributes) → synthesisRefusal reading f a ≡ 0 → isReading reading ≡ true
+unfolding synthesisRefusal
+known-reading reading f a = go (isReading reading)
+  where
+    go : (b : Bool) → _≡_ {A = ℕ} (cond b (cond (eqb (faceRefusal f) 0) (cond (acceptedAttributes a) 0 26) (faceRefusal f)) 25) 0 → b ≡ true
+    go true z = refl
+    go false z = absurd (omega arith)
 
 synthesis-refusal-requires : tie.Need-synthesis-refusal-requires
 synthesis-refusal-requires c κs = search needs
@@ -38,7 +53,10 @@ varies-requires : tie.Need-varies-requires
 varies-requires c κs = search needs
 
 synthesize-requires : tie.Need-synthesize-requires
-synthesize-requires c κs = search needs
+unfolding attributesFrom
+synthesize-requires c κs =
+    let a = c .before .before .before .before .args in
+    known-reading (a .reading) (a .font) (attributesFrom (a .width) (a .style) (a .weight)) (sym (c .before .before .before .synthesis-refusal .ensures) ∙ c .before .before .if1 .left)
 
 returns-2 : tie.Need-returns-2
 unfolding synthesisOf attributesFrom

@@ -7,7 +7,6 @@ use Rattle.font.specs.Single.{single}
 use Rattle.font.specs.First.{tabulate}
 use Rattle.font.specs.Attributes.{defaultAttributes}
 use Rattle.font.specs.Font.{noAxis, noIndex, emptyFont, checkedBy, fromFontRef}
-use Rattle.font.proofs.FaceOf.{taken-under}
 use borrow.Author.Needs.{needs}
 use Rattle.font.proofs.font.FontInfo.from_font_ref.Statement.{statement}
 use Rattle.font.proofs.font.FontInfo.from_font_ref.Tie as tie
@@ -16,7 +15,7 @@ refusal-under-requires : tie.Need-refusal-under-requires
 refusal-under-requires c κs = search needs
 
 read-font-requires : tie.Need-read-font-requires
-read-font-requires c κs = taken-under _ _ _ (sym (c .before .refusal-under .ensures) ∙ c .if1 .taken) .1
+read-font-requires c κs = sym (c .before .refusal-under .ensures) ∙ c .if1 .taken
 
 returns : tie.Need-returns
 unfolding fromFontRef checkedBy
