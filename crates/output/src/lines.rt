@@ -11,9 +11,6 @@ use query::cursor::Cursor;
 use query::job;
 use query::job::Checked;
 
-// The most bytes that a job has.
-const MOST_BYTES: usize = 16_777_216;
-
 // The most requests that a job has.
 const MOST_REQUESTS: u32 = 256;
 
@@ -98,18 +95,16 @@ fn print_requests(job: &[u8], reading: u32, count: u32, indexed: bool) {
     }
 }
 
-// What the check call answers, but 25 where there is no such reading and the job is not too long.
+// What the check call answers; where there is no such reading, the offer call's refusal, which is of no field.
 fn checked_under(job: &[u8], reading: u32) -> Checked
     ensures { λ r. ⌜ r ≡ checkedUnder (now (job .entry)) reading ⌝ }
 {
     if slant::is_reading(reading) {
         return job::check(job);
     }
-    if MOST_BYTES < job.len() {
-        return job::check(job);
-    }
+    let answer = call::offer_at(job, reading, 0, 0);
     Checked {
-        refusal: 25,
+        refusal: answer.result as u8,
         position: 0,
     }
 }

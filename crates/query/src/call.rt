@@ -56,6 +56,7 @@ fn without_offer(result: u32) -> Answer
 
 // The answer with an offer, from its face and the request's attributes, under a reading.
 fn with_synthesis(offer: Offer, font: FontInfo, reading: u32, wanted: Attributes) -> Answer
+    requires { ⌜ isReading reading ≡ true ⌝ }
     ensures { λ r. ⌜ r ≡ withSynthesis offer (synthesized reading (font .attributes) (variesOf font) wanted) (font .«charmap_index») ⌝ }
 {
     let attributes = font.attributes;

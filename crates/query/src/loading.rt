@@ -4,7 +4,7 @@ ghost use Prim.Native.Nat.{ℕ, _^_, _≤_, _<_};
 ghost use lib.ListN.{length, getD};
 ghost use mathlib.Core.Bool.{true};
 ghost use Rattle.font.specs.Slant.{isReading};
-ghost use Rattle.font.specs.Font.{fontRefusal};
+ghost use Rattle.font.specs.Font.{refusalUnder};
 ghost use Rattle.query.specs.Sizes.{mostOverrides, mostFamilies};
 ghost use Rattle.query.specs.Values.{fileAt, fileEnd, numberBehind};
 ghost use Rattle.query.specs.CallTables.{bitOf, rowAt, withWidth, withStyle, withWeight, rowOverridden, FacesLie, RowsAt, RowsOverridden, nowhere, Room, LoadAnswer};
@@ -46,7 +46,7 @@ fn bit_of(b: bool) -> u32
 // The row of the face whose entry lies at a position, before its overrides, by its file and font number.
 fn row_at(job: &[u8], reading: u32, at: usize, file: &[u8], number: u16) -> Row
     requires { ⌜ (at < 2 ^ 30) × (now file ≡ fileAt (now job) at) × (number ≡ numberBehind (now job) (fileEnd (now job) at) (now file)) ⌝ }
-    requires { ⌜ fontRefusal (now file) number ≡ 0 ⌝ }
+    requires { ⌜ refusalUnder reading (now file) number ≡ 0 ⌝ }
     ensures { λ r. ⌜ r ≡ rowAt reading (now (job .entry)) at ⌝ }
 {
     let held = bit_of(fields::byte_at(job, at) == 1);
@@ -58,7 +58,7 @@ fn row_at(job: &[u8], reading: u32, at: usize, file: &[u8], number: u16) -> Row
 
 // The rows of `count` faces, whose entries lie one after another from `at` on.
 fn load_faces(job: &[u8], reading: u32, at: usize, count: usize, rows: &mut [Row])
-    requires { ⌜ FacesLie (now job) at count × (count ≤ length (now rows)) ⌝ }
+    requires { ⌜ (isReading reading ≡ true) × FacesLie (now job) at count × (count ≤ length (now rows)) ⌝ }
     ensures { λ _. ⌜ RowsAt reading (now (job .entry)) at count (now (rows .entry)) (now (rows .exit)) ⌝ }
 {
     let mut place = at;

@@ -15,7 +15,7 @@ offered-face-requires : tie.Need-offered-face-requires
 offered-face-requires c κs = let p = c .before .before .before .pre in (let r = p .1 (c .if1 .left) in ((r .section, r .entry, r .overrides), (p .0, r .taken)))
 
 with-synthesis-requires : tie.Need-with-synthesis-requires
-with-synthesis-requires c κs = search needs
+with-synthesis-requires c κs = c .before .before .before .before .before .before .pre .0
 
 returns-2 : tie.Need-returns-2
 returns-2 c =

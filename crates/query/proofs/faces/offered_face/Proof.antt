@@ -56,7 +56,9 @@ behind-file-requires c κs = search needs
 
 read-font-requires : tie.Need-read-font-requires
 read-font-requires c κs =
-    not-refused _ _ (c .before .before .file-at .ensures) (c .behind-file .ensures) (c .before .file-end .ensures .0) (c .before .before .before .before .pre .1 .1)
+    let pre = c .before .before .before .before .pre .1 in
+    under-reading _ _ _ (pre .0)
+    ∙ not-refused _ _ (c .before .before .file-at .ensures) (c .behind-file .ensures) (c .before .file-end .ensures .0) (pre .1)
 
 u16-at-requires : tie.Need-u16-at-requires
 u16-at-requires c κs = search needs

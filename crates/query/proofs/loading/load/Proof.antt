@@ -20,6 +20,7 @@ load-faces-requires c κs =
     let then = c .before .before in
     let walked = then .before .before in
     let count = c .before .u16-at .ensures in (
+      walked .before .before .before .pre .0 .0,
       faces-lie (walked .walk .ensures) (then .if1 .taken) count,
       omega (arith, faces-number (walked .walk .ensures) (then .if1 .taken) count, walked .before .before .before .pre .0 .1),
     )
