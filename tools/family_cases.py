@@ -4,8 +4,8 @@
     python3 tools/family_cases.py > crates/family_cases/stdout
 
 The model is of docs/GUIDE.md: the refusals 19, 24 and 26 of calls on a family or face by value, and 25 before them
-(section 6), and sections 4 and 5 as far as the cases go: every face of a family that is accepted is normal. It shares nothing with the Rattle code but the
-cases, which stand there in the same order and under the same names.
+(section 6), and sections 4 and 5 as far as the cases go: every face of a family that is accepted is normal. It shares
+nothing with the Rattle code but the cases, which stand there in the same order and under the same names.
 """
 import math
 import struct

@@ -31,8 +31,8 @@ pub mod Inside
 pub mod Classes
 pub mod FaceOf
 pub mod Qualifying
-pub mod FieldReadings
-pub mod AnyReading
+pub mod FieldReaders
+pub mod AnyReader
 pub mod LookedAt
 pub mod CutTables
 pub mod Elsewhere

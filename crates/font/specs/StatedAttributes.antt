@@ -17,7 +17,7 @@ use Rattle.font.specs.Attributes.{attributesOf, defaultAttributes}
 use Rattle.font.specs.Slant.{isReading, slantUnder}
 use Rattle.font.specs.Tables.{u16At, u32At, tableData, Handed, no-table, damaged-table, found-table, handedTable, isDamaged}
 
--- a table that is not found is handed out as no bytes, in which nothing is read (`proofs/AnyReading.antt`)
+-- a table that is not found is handed out as no bytes, in which nothing is read (`proofs/AnyReader.antt`)
 unfoldable pub present : List ℕ → Bool
 present table = ltb 0 (length table)
 

@@ -8,7 +8,7 @@ use Rattle.font.specs.declared.tables.Table.{Table}
 use Rattle.font.specs.declared.tables.Table.the-variants.{Absent, Damaged, Found}
 use Rattle.font.specs.First.{first}
 
--- "All fields are big-endian." A field that does not lie whole in the bytes reads as 0, which section 2 never takes for data (`proofs/AnyReading.antt`).
+-- "All fields are big-endian." A field that does not lie whole in the bytes reads as 0, which section 2 never takes for data (`proofs/AnyReader.antt`).
 unfoldable pub u16At : List ℕ → ℕ → ℕ
 u16At s at = cond (leb (at + 2) (length s)) (getD s at 0 * 256 + getD s (at + 1) 0) 0
 

@@ -230,15 +230,9 @@ fn shown_synthesis(
     face::synthesis(font, reading, width, style, weight)
 }
 
-// The first of three refusals that is one.
-fn first_refusal(a: u8, b: u8, c: u8) -> u8 {
-    if a != 0 {
-        return a;
-    }
-    if b != 0 {
-        return b;
-    }
-    c
+// The first of two refusals, if it is one.
+fn first_refusal(a: u8, b: u8) -> u8 {
+    if a != 0 { a } else { b }
 }
 
 // The line of a case, without its end.
@@ -266,7 +260,8 @@ fn print_answers(fonts: [FontInfo; 64], count: usize, request: Attributes, synth
     let family = made.family;
     let old = shown_synthesis(family, choice, 0, request);
     let new = shown_synthesis(family, choice, 1, request);
-    let refusal = first_refusal(matches.refusal, made.refusal, old.refusal);
+    let chosen = first_refusal(matches.refusal, made.refusal);
+    let refusal = first_refusal(chosen, first_refusal(old.refusal, new.refusal));
     if refusal == 0 {
         let list = matches.list;
         print_line(choice, list, family.default_font, old, new);

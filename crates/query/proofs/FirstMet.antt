@@ -16,8 +16,8 @@ use Rattle.query.specs.Fields.{half, count, counted}
 use Rattle.query.specs.Job.{Job, atEnd, readSections, readJob, answer, checkJob, jobOf}
 use Rattle.query.specs.declared.job.Checked.{Checked}
 use Rattle.query.specs.Demands.{cutBefore, Until, lacking, met, whole}
-use Rattle.query.proofs.Readings.{place, Goes, Kept, Back, Lacked, Stays, stays-then, Reads, never}
-use Rattle.query.proofs.EntryReadings.{reads-counted, reads-face, reads-override, reads-family, reads-request}
+use Rattle.query.proofs.Readers.{place, Goes, Kept, Back, Lacked, Stays, stays-then, Reads, never}
+use Rattle.query.proofs.EntryReaders.{reads-counted, reads-face, reads-override, reads-family, reads-request}
 use Rattle.query.proofs.AcceptedJobs.{number-row}
 use Rattle.query.proofs.Checks.{accepted, job-read, sections-read}
 

@@ -16,8 +16,8 @@ pub mod ExactFonts
 pub mod ExactEntries
 pub mod AcceptedJobs
 -- First met, reading left to right.
-pub mod Readings
-pub mod EntryReadings
+pub mod Readers
+pub mod EntryReaders
 pub mod InTurn
 pub mod FirstMet
 pub mod Examples

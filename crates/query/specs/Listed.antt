@@ -53,8 +53,8 @@ defaultOffers rows members count chosen =
 unfoldable pub offersAt : List ℕ → ℕ → List (List ℕ) → Request → List ℕ
 offersAt s p rows request = familyOffers (familyOfRows rows (membersAt s p) (u16At s p)) (heldRow rows (membersAt s p)) request
 
--- The offers of the family of a number, by the rows of the job's faces. The rows are those of a reading, and here it is no matter of which: what the rows are of a
--- view, these are the view's (`RowFamilies.rows-show`).
+-- The offers of the family of a number, by the rows of the job's faces. The rows are those of a reading, and here it is no matter of which: where they show a
+-- view's faces, the offers are the view's (`RowFamilies.rows-show`).
 unfoldable pub rowFamily : List ℕ → List (List ℕ) → ℕ → Order.Family
 rowFamily s rows f = record { count = length (membersIn s f); face = λ i. faceOfRow (getD rows (getD (membersIn s f) i 0) []) }
 

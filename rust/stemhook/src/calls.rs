@@ -31,10 +31,6 @@ pub fn check(job: &[u8]) -> Result<(), Refused> {
 
 /// The offer of a number for a request, or none where it lies past the list.
 ///
-/// The reading is a [`Reading`] or its number. Another number is refused with
-/// [`UnknownOrSpare`](Refusal::UnknownOrSpare), before anything of the job and
-/// without a position.
-///
 /// Each call reads the whole job. [`Job`](crate::Job) holds one that is
 /// accepted, and [`Offers`](crate::Offers) goes over a request's list.
 ///
@@ -43,42 +39,47 @@ pub fn check(job: &[u8]) -> Result<(), Refused> {
 ///
 /// let refused = offer(&[0; 8], Reading::OpenType, 0, 0).unwrap_err();
 /// assert_eq!(refused.refusal(), Refusal::NoSuchRequest);
-///
-/// let refused = offer(&[0; 8], 2_u32, 0, 0).unwrap_err();
-/// assert_eq!(refused.refusal(), Refusal::UnknownOrSpare);
-/// assert_eq!(refused.position(), None);
 /// ```
 pub fn offer(
     job: &[u8],
-    reading: impl Into<u32>,
+    reading: Reading,
     request: u32,
     number: u32,
 ) -> Result<Option<Offer>, Refused> {
     let mut out = [0; OFFER_BYTES];
-    let written = offer_bytes(job, reading, request, number, &mut out)?;
+    let written = offer_bytes(job, reading.number(), request, number, &mut out)?;
     Ok(written.then(|| Offer::from_bytes(&out)))
 }
 
 /// The offer call as it is exported: writes the 40 bytes of an offer and
 /// answers true, or answers false where it lies past the list. Unless it
-/// answers true, it writes nothing. The reading is as in [`offer`].
+/// answers true, it writes nothing.
+///
+/// The reading is the number of a [`Reading`]. Another number is refused with
+/// [`UnknownOrSpare`](Refusal::UnknownOrSpare), before anything of the job and
+/// without a position.
 ///
 /// ```
 /// use stemhook::{Reading, Refusal, offer_bytes};
 ///
+/// let reading = Reading::OpenType.number();
 /// let mut out = [7; 39];
-/// let refused = offer_bytes(&[0; 8], Reading::AsStored, 0, 0, &mut out).unwrap_err();
+/// let refused = offer_bytes(&[0; 8], reading, 0, 0, &mut out).unwrap_err();
 /// assert_eq!(refused.refusal(), Refusal::OutputLength);
 /// assert_eq!(out, [7; 39]);
+///
+/// let mut out = [7; 40];
+/// let refused = offer_bytes(&[0; 9], 2, 0, 0, &mut out).unwrap_err();
+/// assert_eq!(refused.refusal(), Refusal::UnknownOrSpare);
+/// assert_eq!(refused.position(), None);
 /// ```
 pub fn offer_bytes(
     job: &[u8],
-    reading: impl Into<u32>,
+    reading: u32,
     request: u32,
     number: u32,
     out: &mut [u8],
 ) -> Result<bool, Refused> {
-    let reading = reading.into();
     match ffi::offer(job, reading, request, number, out) {
         0 => Ok(true),
         1 => Ok(false),

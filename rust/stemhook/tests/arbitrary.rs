@@ -14,12 +14,13 @@ fn try_offers(job: &[u8], checked: Result<(), Refused>, random: &mut Random) {
     let mut out = [0x77; 40];
     let answer = offer_bytes(job, reading, request, number, &mut out);
     assert_eq!(answer == Ok(true), out != [0x77; 40]);
+    let Ok(reading) = Reading::try_from(reading) else {
+        let refused = answer.unwrap_err();
+        assert_eq!(refused.refusal(), Refusal::UnknownOrSpare);
+        assert_eq!(refused.position(), None);
+        return;
+    };
     match (checked, answer) {
-        _ if Reading::try_from(reading).is_err() => {
-            let refused = answer.unwrap_err();
-            assert_eq!(refused.refusal(), Refusal::UnknownOrSpare);
-            assert_eq!(refused.position(), None);
-        }
         (Err(refused), answer) => assert_eq!(answer, Err(refused)),
         (Ok(()), Err(refused)) => assert_eq!(refused.refusal(), Refusal::NoSuchRequest),
         (Ok(()), Ok(_)) => {}

@@ -120,7 +120,8 @@ fn both_calls_refuse_alike_and_write_nothing() {
         let Err(refused) = check(bytes) else { continue };
         let mut out = [0xa5; 40];
         for reading in common::READINGS {
-            assert_eq!(offer_bytes(bytes, reading, 0, 0, &mut out), Err(refused));
+            let answer = offer_bytes(bytes, reading.number(), 0, 0, &mut out);
+            assert_eq!(answer, Err(refused));
             assert_eq!(out, [0xa5; 40]);
         }
         assert_eq!(Job::new(bytes), Err(refused));

@@ -33,8 +33,9 @@ fn refused(job: &[u8], refusal: Refusal, position: Option<usize>) {
     assert_eq!(of_check.position(), position.map(|at| at as u32));
     let mut out = [0x5a; 40];
     for reading in common::READINGS {
-        assert_eq!(offer_bytes(job, reading, 0, 0, &mut out), Err(of_check));
         assert_eq!(offer(job, reading, u32::MAX, u32::MAX), Err(of_check));
+        let answer = offer_bytes(job, reading.number(), 0, 0, &mut out);
+        assert_eq!(answer, Err(of_check));
     }
     assert_eq!(out, [0x5a; 40]);
 }
@@ -56,7 +57,7 @@ fn output_of_any_other_length_is_16() {
     let job = accepted();
     for length in (0..100).chain([4096]) {
         let mut out = vec![0x5a; length];
-        let answer = offer_bytes(&job, Reading::AsStored, 0, 0, &mut out);
+        let answer = offer_bytes(&job, 0, 0, 0, &mut out);
         if length == 40 {
             assert_eq!(answer, Ok(true));
             assert_ne!(out, vec![0x5a; 40]);
@@ -79,7 +80,7 @@ fn a_job_over_its_most_bytes_is_17() {
     let job = vec![0; 16_777_217];
     refused(&job, Refusal::JobLength, None);
     // Before the reading.
-    let error = offer(&job, 2_u32, 0, 0).unwrap_err();
+    let error = offer_bytes(&job, 2, 0, 0, &mut [0; 40]).unwrap_err();
     assert_eq!(error.refusal(), Refusal::JobLength);
     // One byte less is read.
     refused(&job[1..], Refusal::BytesLeft, Some(8));
@@ -420,7 +421,8 @@ fn an_unknown_reading_is_25_before_anything_of_the_job() {
             assert_eq!(error.refusal(), Refusal::UnknownOrSpare);
             assert_eq!(error.position(), None);
             assert_eq!(out, [0x5a; 40]);
-            assert_eq!(offer(job, reading, u32::MAX, u32::MAX), Err(error));
+            let past = offer_bytes(job, reading, u32::MAX, u32::MAX, &mut out);
+            assert_eq!(past, Err(error));
         }
     }
 }

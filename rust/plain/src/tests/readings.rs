@@ -232,7 +232,8 @@ fn sloping_faces_stay() {
     }
 }
 
-/// A face by value has no angle of a file, and there is nothing to refuse it with.
+/// The calls that take a job or a font refuse such a number before: here it is a
+/// fault of the caller's.
 #[test]
 #[should_panic(expected = "there is no reading 2")]
 fn synthesis_under_no_reading() {

@@ -1,5 +1,5 @@
--- Section 2 a second time, over any reading of fields: `r16` and `r32` give a field's number where it lies whole in the bytes, and anything where it does not.
--- A field can be read here by these two alone, and a table that is not found has no bytes to read. `AnyReading.antt` shows that each such reading gives
+-- Section 2 a second time, over any reader of fields: `r16` and `r32` give a field's number where it lies whole in the bytes, and anything where it does not.
+-- A field can be read here by these two alone, and a table that is not found has no bytes to read. `AnyReader.antt` shows that each such reader gives
 -- what the definitions give: an absent or damaged table and an unreadable field are never taken for data.
 use Prim.Native.Nat.{ℕ, _+_, _*_}
 use mathlib.Core.Bool.{Bool, true, false, not, _&&_, cond}

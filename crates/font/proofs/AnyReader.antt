@@ -1,5 +1,5 @@
--- An absent or damaged table and an unreadable field are never taken for data: each reading that is right for fields that lie whole in the bytes gives the attributes, the
--- charmap index and the face that the definitions give (`FieldReadings.antt`), whatever it gives for other fields. Assumes nothing.
+-- An absent or damaged table and an unreadable field are never taken for data: each reader that is right for fields that lie whole in the bytes gives the attributes, the
+-- charmap index and the face that the definitions give (`FieldReaders.antt`), whatever it gives for other fields. Assumes nothing.
 use Prim.Native.Nat.{ℕ, _+_, _*_, _≤_, _<_}
 use mathlib.Core.Path.{_≡_, refl, ap}
 use mathlib.Core.Bool.{Bool, true, false, _&&_, cond}
@@ -24,7 +24,7 @@ use Rattle.font.specs.StatedAttributes.{present, postAngle, os2Style, fr
 use Rattle.font.specs.First.{first}
 use Rattle.font.specs.Charmap.{classOf, subtableOffset, liesIn, pairClass, qualifies, recordClass, someQualifies, bestClass, bestRecord, indexOf, indexIn, charmapIndex}
 use Rattle.font.specs.Font.{fvarOf, axisCount, axisAt, noAxis, axesOf, refusalAt, fontRefusal, refusalUnder, emptyFont, faceOf, checkedBy, fromFontRef, statesAxis}
-use Rattle.font.proofs.FieldReadings.{Fields, bytesAt, lost, countBy, startBy, fitsBy, recordBy, tableBy, findBy, angleBy, os2By, headBy, withoutBy, statedBy, attributesBy, needsPostBy, neededBy, losesBy, countInBy, axisCountBy, axisBy, axesBy, statesBy, classBy, qualifiesBy, recordClassBy, indexInBy, indexBy, refusalAtBy, refusalBy, underBy, faceBy, fontBy}
+use Rattle.font.proofs.FieldReaders.{Fields, bytesAt, lost, countBy, startBy, fitsBy, recordBy, tableBy, findBy, angleBy, os2By, headBy, withoutBy, statedBy, attributesBy, needsPostBy, neededBy, losesBy, countInBy, axisCountBy, axisBy, axesBy, statesBy, classBy, qualifiesBy, recordClassBy, indexInBy, indexBy, refusalAtBy, refusalBy, underBy, faceBy, fontBy}
 use Rattle.font.proofs.First.{first-same}
 use Rattle.font.proofs.Tabulated.{same}
 use Rattle.font.proofs.Lookup.{records-inside, long}
@@ -49,14 +49,14 @@ axis-inside fvar i = go (present fvar) (eqb (u16At fvar 10) 20) (leb (u16At fvar
     go true false c e l = absurd (omega arith)
     go false b c e l = absurd (omega arith)
 
--- ---- every right reading gives the same
+-- ---- every right reader gives the same
 
 -- right for each field that lies whole in the bytes; of other fields it says nothing
 pub record Right (r16 r32 : Fields) : Type 0 where
   pub whole16 : (s : List ℕ) (at : ℕ) → at + 2 ≤ length s → r16 s at ≡ u16At s at
   pub whole32 : (s : List ℕ) (at : ℕ) → at + 4 ≤ length s → r32 s at ≡ u32At s at
 
--- such is each reading that answers as it likes where a field does not lie whole in the bytes
+-- such is each reader that answers as it likes where a field does not lie whole in the bytes
 abbrev pub fill16 : Fields → Fields
 fill16 other s at = cond (leb (at + 2) (length s)) (u16At s at) (other s at)
 

@@ -1,4 +1,4 @@
--- What every reading of a job keeps to, so that "first met, reading left to right" holds: it goes on and stays in the job; bytes after those that it passed
+-- What every reader of a job keeps to, so that "first met, reading left to right" holds: it goes on and stays in the job; bytes after those that it passed
 -- over change nothing; and cut off before a field that it refuses, the job lacks just that field.
 use Prim.Native.Nat.{ℕ, zero, suc, _+_, _≤_, _<_}
 use mathlib.Core.Path.{_≡_, refl, sym, ap, _∙_}
@@ -20,7 +20,7 @@ unfoldable pub place : {A : Type 0} → Got A → ℕ
 place (refused w p) = p
 place (got a p) = p
 
--- ---- what a reading says of the bytes that it passed over
+-- ---- what a reader says of the bytes that it passed over
 
 -- what was read ends no earlier than it began
 unfoldable pub Goes : {A : Type 0} → ℕ → Got A → Type 0
@@ -141,7 +141,7 @@ passes-tested {A} why ok {r} f =
     again s p x (refused w q) c = tt
     again s p x (got a q) c = back-to s p x a q c (ok a) refl
 
--- ---- what a reading says of the field that it refuses
+-- ---- what a reader says of the field that it refuses
 
 -- Of n bytes of a job that is refused at q, from p on: 27 is no row of a field; and where they end at q, all that they lack is the field there. But for places that are
 -- said to be early: a font is refused at its length field after its number was read.
@@ -172,7 +172,7 @@ lacks-then {A} {B} {early} {r} {k} h f g =
     go s u p x (refused w q) l c d = (d .0, ⊎-elim (λ e. inl e) (λ m. inr (m .0, λ e. rw (m .1 e) refl)) (d .1))
     go s u p x (got a q) l c d = last s p x a q l c (k a (s ++ u) q) (g a .lacks s u q)
 
--- ---- a reading stays in the job, if what is early does
+-- ---- a reader stays in the job, if what is early does
 
 pub record Stays {A : Type 0} (early : ℕ → Type 0) (r : Reader A) : Type 0 where
   pub stays : (s : List ℕ) (p : ℕ) → ((q : ℕ) → early q → q ≤ length s) → p ≤ length s → place (r s p) ≤ length s

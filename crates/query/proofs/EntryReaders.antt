@@ -1,4 +1,4 @@
--- What every reading of a job keeps to (`Readings.antt`), of fonts, lists and entries.
+-- What every reader of a job keeps to (`Readers.antt`), of fonts, lists and entries.
 use Prim.Native.Nat.{ℕ, _+_, _≤_}
 use mathlib.Core.Path.{_≡_, refl, sym, ap, _∙_}
 use mathlib.Core.Bool.{Bool, true, false, cond}
@@ -14,7 +14,7 @@ use Rattle.font.specs.Font.{fontRefusal}
 use Rattle.query.specs.Reader.{Refusal, pastEnd, overLimit, notHeld, badDirectory, noCharmap, manyAxes, unknown, noFont, damagedTable, number, Got, refused, got, Reader, done, onward, _>>=_}
 use Rattle.query.specs.Fields.{half, word, count, counted, byteCounted, heldByte, mask, kind, spareByte, orSpare, NumberedFont, fontRow, fontBytes, sizedFile, numberBelow, refusedAt, fontNumber, fontTaken, numbered, fontFile}
 use Rattle.query.specs.Entries.{readFace, readAngle, readStyle, readWidth, readWeight, styleOrSpare, readGiven, readPair, readOverride, readFamily, readRequested, readRequest}
-use Rattle.query.proofs.Readings.{place, Goes, Kept, Back, Passes, passes-then, Lacked, Reads, never, reads-done, reads-then, reads-many, OfField, Field, reads-field, tested-field, byte-field, half-field, word-field, ratio-field, value-field, spare-word-field, face-number-field}
+use Rattle.query.proofs.Readers.{place, Goes, Kept, Back, Passes, passes-then, Lacked, Reads, never, reads-done, reads-then, reads-many, OfField, Field, reads-field, tested-field, byte-field, half-field, word-field, ratio-field, value-field, spare-word-field, face-number-field}
 
 -- ---- a font file: its length and bytes are one field
 
