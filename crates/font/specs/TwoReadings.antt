@@ -46,29 +46,29 @@ pub record Old (file : List ℕ) (number : ℕ) : Type 0 where
   pub attributes : (os2 post : List ℕ)
       → fromOs2Post 0 os2 post
       ≡ attributesOf (widthOfClass (u16At os2 6))
-        (cond (bit 0 (u16At os2 62)) Italic
-        (cond (bit 9 (u16At os2 62)) (Oblique (cond (present post) (Degrees (fixedToSingle (u32At post 4))) Unstated))
-        Normal))
-        (single (u16At os2 4))
+      (cond (bit 0 (u16At os2 62)) Italic
+      (cond (bit 9 (u16At os2 62)) (Oblique (cond (present post) (Degrees (fixedToSingle (u32At post 4))) Unstated))
+      Normal))
+      (single (u16At os2 4))
   pub tables : (start : ℕ)
       → fromTables 0 file start
       ≡ cond (present (tableData file start 0x4F532F32 78)) (fromOs2Post 0 (tableData file start 0x4F532F32 78) (tableData file start 0x706F7374 32))
-        (cond (present (tableData file start 0x68656164 54)) (fromHead (tableData file start 0x68656164 54))
-        defaultAttributes)
+      (cond (present (tableData file start 0x68656164 54)) (fromHead (tableData file start 0x68656164 54))
+      defaultAttributes)
   pub stated : (start : ℕ) → readAttributes 0 file start ≡ cond (losesNeeded file start) (Refused 31) (Stated (fromTables 0 file start))
   pub face : (start : ℕ)
       → faceOf 0 file start
       ≡ record {
-          attributes = fromTables 0 file start;
-          axes = axesOf (fvarOf file start) (axisCount (fvarOf file start));
-          «axis_count» = axisCount (fvarOf file start);
-          «charmap_index» = indexOr noIndex (charmapIndex file start);
-        }
+        attributes = fromTables 0 file start;
+        axes = axesOf (fvarOf file start) (axisCount (fvarOf file start));
+        «axis_count» = axisCount (fvarOf file start);
+        «charmap_index» = indexOr noIndex (charmapIndex file start);
+      }
   pub font : fromFontRef 0 file number
       ≡ record {
-          refusal = fontRefusal file number;
-          font = cond (eqb (fontRefusal file number) 0) (faceOf 0 file (fontStart file number)) emptyFont;
-        }
+        refusal = fontRefusal file number;
+        font = cond (eqb (fontRefusal file number) 0) (faceOf 0 file (fontStart file number)) emptyFont;
+      }
 
 pub record TwoReadings (file : List ℕ) (number : ℕ) : Type 0 where
   pub old : Old file number

@@ -33,12 +33,12 @@ pub record Old : Type 0 where
   pub in-order : (own : Attributes) (v : Varies) (a : Attributes)
       → synthesized 0 own v a
       ≡ added
-        (added
-        (added
-        (unvaried 0 (emboldened v (own .weight .value) (a .weight .value)) (skewOf (leanOf 0 v (own .style) (a .style))))
-        (widthSetting v (own .width .ratio) (a .width .ratio)))
-        (weightSetting v (a .weight .value)))
-        (settingOf (leanOf 0 v (own .style) (a .style)))
+      (added
+      (added
+      (unvaried 0 (emboldened v (own .weight .value) (a .weight .value)) (skewOf (leanOf 0 v (own .style) (a .style))))
+      (widthSetting v (own .width .ratio) (a .width .ratio)))
+      (weightSetting v (a .weight .value)))
+      (settingOf (leanOf 0 v (own .style) (a .style)))
   pub refusal : (font : FontInfo) (a : Attributes)
       → synthesisRefusal 0 font a ≡ cond (eqb (faceRefusal font) 0) (cond (acceptedAttributes a) 0 26) (faceRefusal font)
   pub by-value : (font : FontInfo) (a : Attributes)

@@ -39,7 +39,7 @@ module _ (s : List ℕ) (reading : ℕ) (none : isReading reading ≡ false) {a 
     where
       go : (b : Bool)
           → _≡_ {A = Checked} (record { refusal = cond b 25 17; position = 0 })
-            (cond b (record { refusal = 25; position = 0 }) (answer (cond b (readSections s 0) (refused overlong 0))))
+          (cond b (record { refusal = 25; position = 0 }) (answer (cond b (readSections s 0) (refused overlong 0))))
       go true = refl
       go false = refl
 
