@@ -16,7 +16,7 @@ use Rattle.font.specs.Slant.{isReading, opposite, slantUnder, oppositeAn
 use Rattle.font.specs.Tables.{u16At, u32At, tableData}
 use Rattle.font.specs.Collection.{fontStart}
 use Rattle.font.specs.StatedAttributes.{present, bit, widthOfClass, postAngle, os2Style, fromOs2Post, headStyle, headWeight, fromHead, fromTables, losesNeeded, readAttributes}
-use Rattle.font.specs.Font.{emptyFont, fontRefusal, refusalUnder, faceOf, checkedBy, fromFontRef}
+use Rattle.font.specs.Font.{emptyFont, fontRefusal, refusalUnder, faceOf, checkedBy, fromFontRef, statedAt}
 use Rattle.font.specs.TwoReadings.{Edges, Old, TwoReadings}
 
 pub edges : Edges
@@ -92,9 +92,16 @@ face-same file number = go (eqb (fontRefusal file number) 0)
 -- ---- reading 0, by computing
 
 old-kept : (file : List ℕ) (number : ℕ) → Old file number
-unfolding postAngle os2Style fromOs2Post slantUnder fromTables readAttributes isReading faceOf fromFontRef refusalUnder checkedBy
+unfolding postAngle os2Style fromOs2Post slantUnder fromTables readAttributes isReading faceOf fromFontRef refusalUnder checkedBy statedAt
 old-kept file number =
-    record { attributes = λ os2 post. refl; tables = λ start. refl; stated = λ start. refl; face = λ start. refl; font = refl }
+    record {
+      attributes = λ os2 post. refl;
+      tables = λ start. refl;
+      stated = λ start. refl;
+      face = λ start. refl;
+      font = refl;
+      looked-at = λ start tag. refl;
+    }
 
 -- ---- the statement
 

@@ -18,7 +18,7 @@ use Rattle.font.specs.Collection.{fontStart}
 use Rattle.font.specs.Charmap.{charmapIndex}
 use Rattle.font.specs.Slant.{isReading, opposite, slantUnder, oppositeAttributes, oppositeFace}
 use Rattle.font.specs.StatedAttributes.{present, bit, widthOfClass, fromOs2Post, fromHead, fromTables, losesNeeded, readAttributes}
-use Rattle.font.specs.Font.{fvarOf, axisCount, axesOf, noIndex, indexOr, emptyFont, fontRefusal, faceOf, fromFontRef}
+use Rattle.font.specs.Font.{fvarOf, axisCount, axesOf, noIndex, indexOr, emptyFont, fontRefusal, faceOf, fromFontRef, statesAxis, statedAt}
 
 -- ---- a number and its opposite
 
@@ -41,7 +41,7 @@ pub record Edges : Type 0 where
 
 -- ---- the font of a number
 
--- Reading 0 is all that stood: each definition computes to section 2's sentence, which has no reading.
+-- Reading 0 is all that stood: each definition computes to what it was without a reading, over those below it under reading 0.
 pub record Old (file : List ℕ) (number : ℕ) : Type 0 where
   pub attributes : (os2 post : List ℕ)
       → fromOs2Post 0 os2 post
@@ -69,6 +69,7 @@ pub record Old (file : List ℕ) (number : ℕ) : Type 0 where
         refusal = fontRefusal file number;
         font = cond (eqb (fontRefusal file number) 0) (faceOf 0 file (fontStart file number)) emptyFont;
       }
+  pub looked-at : (start tag : ℕ) → statedAt 0 file start tag ≡ record { attributes = fromTables 0 file start; «has_axis» = statesAxis file start tag }
 
 pub record TwoReadings (file : List ℕ) (number : ℕ) : Type 0 where
   pub old : Old file number

@@ -21,7 +21,7 @@ use Rattle.font.specs.Charmap.{indexIn, charmapIndex}
 use Rattle.font.specs.StatedAttributes.{present, fromOs2Post, fromHead, losesNeeded, readAttributes}
 use Rattle.font.specs.Font.{fvarOf, axisCount, axesOf, noIndex, hasIndex, indexOr, emptyFont, fontRefusal, fromFontRef}
 
--- ---- the reading before
+-- ---- font reading as it was
 
 -- lookup, with two answers
 unfoldable pub recordBefore : List ℕ → ℕ → ℕ → ℕ → Table

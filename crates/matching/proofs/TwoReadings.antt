@@ -117,7 +117,17 @@ by-value-same font a = go (cond (eqb (faceRefusal font) 0) (cond (acceptedAttrib
 -- by computing
 old-kept : Old
 unfolding leanOf italicLean obliqueLean slantUnder synthesized synthesisRefusal isReading synthesisOf
-old-kept = record { italic = λ v. refl; oblique = λ v a. refl; in-order = λ own v a. refl; refusal = λ font a. refl; by-value = λ font a. refl }
+old-kept =
+    record {
+      italic = λ v. refl;
+      oblique = λ v a. refl;
+      upright = λ v. refl;
+      italic-face = λ v wanted. refl;
+      oblique-face = λ v a wanted. refl;
+      in-order = λ own v a. refl;
+      refusal = λ font a. refl;
+      by-value = λ font a. refl;
+    }
 
 pub two-readings : TwoReadings
 unfolding synthesisOf synthesisRefusal

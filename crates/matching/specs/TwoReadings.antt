@@ -17,19 +17,22 @@ use Rattle.font.specs.declared.attributes.FontStyle.{FontStyle}
 use Rattle.font.specs.declared.attributes.FontStyle.the-variants.{Normal, Italic, Oblique}
 use Rattle.font.specs.declared.attributes.Attributes.{Attributes}
 use Rattle.font.specs.declared.font.FontInfo.{FontInfo}
-use Rattle.matching.specs.declared.synthesis.Lean.the-variants.{Varied, Skewed}
+use Rattle.matching.specs.declared.synthesis.Lean.the-variants.{Upright, Varied, Skewed}
 use Rattle.matching.specs.declared.synthesis.Varies.{Varies}
 use Rattle.matching.specs.declared.synthesis.Synthesis.{Synthesis}
 use Rattle.matching.specs.Matching.{slnt}
 use Rattle.matching.specs.Synthesis.{ital, widthSetting, weightSetting, emboldened, degreesOf, leansRight, leanOf, settingOf, skewOf, unvaried, added, synthesized, variesOf, synthesisRefusal, synthesisOf, oppositeSlant}
 use Rattle.matching.specs.Faces.{faceWith, styled, slanting, stated, forStyle}
 
--- Reading 0 is all that stood: each definition computes to section 5's sentence, which has no reading.
+-- Reading 0 is all that stood: each definition computes to what it was without a reading, over those below it under reading 0.
 pub record Old : Type 0 where
   pub italic : (v : Varies) → leanOf 0 v Normal Italic ≡ cond (v .italic) (Varied ital (single 1)) (cond (v .slant) (Varied slnt (single 14)) (Skewed (pos 14)))
   pub oblique : (v : Varies) (a : Angle)
       → leanOf 0 v Normal (Oblique a)
       ≡ cond (v .slant) (Varied slnt (degreesOf a)) (cond (leansRight v (degreesOf a)) (Varied ital (single 1)) (Skewed (toSigned 7 (degreesOf a))))
+  pub upright : (v : Varies) → leanOf 0 v Normal Normal ≡ Upright
+  pub italic-face : (v : Varies) (wanted : FontStyle) → leanOf 0 v Italic wanted ≡ Upright
+  pub oblique-face : (v : Varies) (a : Angle) (wanted : FontStyle) → leanOf 0 v (Oblique a) wanted ≡ Upright
   pub in-order : (own : Attributes) (v : Varies) (a : Attributes)
       → synthesized 0 own v a
       ≡ added

@@ -1,4 +1,4 @@
--- How a reading ends, field by field and entry by entry: what the code of each entry does in turn is what its reader does.
+-- How a reader ends, field by field and entry by entry: what the code of each entry does in turn is what its reader does.
 use Prim.Native.Nat.{ℕ, zero, suc, _+_, _-_, _≤_, _<_}
 use mathlib.Core.Path.{_≡_, refl, sym, ap, _∙_}
 use mathlib.Core.Bool.{Bool, true, false, cond}
@@ -187,7 +187,7 @@ pub not-got : {A : Type 0} {g : Got A} {a : At} {v : A} {q : ℕ} → a ≡ ende
 unfolding ended
 not-got e h is = h (ap (λ (x : At). x .refusal) (e ∙ ap ended is))
 
--- a reading that can end in one way alone
+-- a reader that can end in one way alone
 abbrev pub ReadsAt : {A : Type 0} → Reader A → List ℕ → ℕ → A → ℕ → Type 0
 ReadsAt {A} r s p v q = (a : A) (u : ℕ) → r s p ≡ got a u → (a ≡ v) × (u ≡ q)
 

@@ -21,7 +21,7 @@ use Rattle.query.proofs.EntryReaders.{reads-counted, reads-face, reads-
 use Rattle.query.proofs.AcceptedJobs.{number-row}
 use Rattle.query.proofs.Checks.{accepted, job-read, sections-read}
 
--- ---- a reading that ends a job
+-- ---- a reader that ends a job
 
 -- a longer job has the refusal of a shorter one, unless that is 18; after what was accepted there may be bytes left
 KeptRefusal : {A : Type 0} → Got A → Got A → Type 0
@@ -216,7 +216,7 @@ until-met s w p l e n = go (eqb (checkJob a .refusal) 18) (eqb (checkJob a .refu
 refusal-not-0 : (w : Refusal) → number w ≡ 0 → ⊥
 refusal-not-0 w e = omega (arith, number-row w .0, e)
 
--- what the check call says of a reading that ended so
+-- what the check call says of a reader that ended so
 answer-of : (w : Refusal) (n : ℕ) (g : Got Job) → ended g ≡ CutAt w n
     → answer g ≡ cond (eqb (number w) 27) (record { refusal = 0; position = 0 }) (record { refusal = 18; position = n })
 unfolding CutAt ended answer

@@ -1,5 +1,5 @@
 -- Laws that the proofs of `query` share, and the theorems on the job.
--- How a reading ends: what the code of a field, an entry and a section is proved from.
+-- How a reader ends: what the code of a field, an entry and a section is proved from.
 pub mod Ends
 pub mod Leaves
 pub mod Halves

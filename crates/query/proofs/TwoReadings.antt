@@ -23,11 +23,12 @@ use Rattle.query.specs.Fields.{NumberedFont}
 use Rattle.query.specs.Entries.{Request}
 use Rattle.query.specs.Job.{Job}
 use Rattle.query.specs.Layout.{layout, JobFits}
-use Rattle.query.specs.View.{View, statedBy, viewBy, viewOf}
+use Rattle.query.specs.View.{View, statedBy, familiesOf, viewBy, viewOf}
 use Rattle.query.specs.Offers.{facesOf, offersOf, faceOfOffer, synthesisOfOffer, offerAt}
-use Rattle.query.specs.Call.{withoutOffer, withSynthesis, answered, requestOfJob, viewAnswer, requestAnswer, answerCall}
+use Rattle.query.specs.Call.{withoutOffer, withSynthesis, answered, requestOfJob, viewAnswer, requestAnswer, jobAnswer, answerCall, offerCall}
+use Rattle.query.specs.Cursor.{stepped}
 use Rattle.query.specs.Demands.{familyAt}
-use Rattle.query.specs.TwoReadings.{oppositeView, oppositeAnswer, storedView, Old, TwoReadings}
+use Rattle.query.specs.TwoReadings.{oppositeView, oppositeAnswer, Old, TwoReadings}
 use Rattle.query.proofs.AcceptedJobs.{layout-is-accepted}
 use Rattle.query.proofs.AnswerCases.{no-fourth, called}
 
@@ -75,26 +76,28 @@ module _ (view : View) where
       go true = answered-same r (offerAt (offersOf view r) n)
       go false = none-same 28
 
-stored-same : (job : Job) → viewOf 0 job ≡ storedView job
-unfolding viewOf statedBy storedView
-stored-same job = refl
-
-old-kept : (job : Job) → JobFits job → Old job
-unfolding requestAnswer isReading synthesisOfOffer
-old-kept job fits =
+-- by computing
+old-kept : Old
+unfolding viewOf viewBy statedBy familiesOf synthesisOfOffer answered viewAnswer requestAnswer jobAnswer answerCall isReading offerCall stepped
+old-kept =
     record {
-      view = stored-same job;
+      view = λ job. refl;
       synthesis = λ view r o. refl;
-      answers = λ k n.
-          called (layout job) 0 refl k n job _ (layout-is-accepted job fits)
-          ∙ ap (λ (view : View). viewAnswer 0 view job k n) (stored-same job);
+      offer = λ view r o. refl;
+      past = λ view r. refl;
+      request = λ job k n. refl;
+      refused-job = λ why p k n. refl;
+      read-job = λ job p k n. refl;
+      answers = λ s k n. refl;
+      calls = λ s k n out. refl;
+      steps = λ s cursor. refl;
     }
 
 pub two-readings : (job : Job) → JobFits job → TwoReadings job
 unfolding requestAnswer isReading
 two-readings job fits =
     record {
-      old = old-kept job fits;
+      old = old-kept;
       order = λ f. ap (λ (view : View). familyOf (facesOf view f) (length (facesOf view f))) (view-same job);
       list = λ r. ap (λ (view : View). offersOf view r) (view-same job);
       synthesis = λ r o. ap (λ (view : View). synthesisOfOffer view 1 r o) (view-same job) ∙ synthesis-same (oppositeView job) r o;

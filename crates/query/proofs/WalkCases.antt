@@ -70,7 +70,7 @@ refused-sections end h e =
       kept = λ job q is. absurd (not-got end h is);
     }
 
--- where a reading ended
+-- where a reader ended
 ends-at : {A : Type 0} {g : Got A} {a : At} {v : A} {q : ℕ} → a ≡ ended g → g ≡ got v q → a .at ≡ q
 unfolding ended
 ends-at e is = ap (λ (x : At). x .at) (e ∙ ap ended is)

@@ -61,7 +61,7 @@ unfoldable pub many : {A : Type 0} → ℕ → Reader A → Reader (List A)
 many zero r = done []
 many (suc n) r = r >>= λ a. many n r >>= λ rest. done (a ∷ rest)
 
--- how a reading ended: the refusal and its field's position, or 0 and the next position
+-- how a reader ended: the refusal and its field's position, or 0 and the next position
 unfoldable pub ended : {A : Type 0} → Got A → At
 ended (refused why p) = record { refusal = number why; at = p }
 ended (got a p) = record { refusal = 0; at = p }
