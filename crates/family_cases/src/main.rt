@@ -12,6 +12,8 @@
 // with `refused N` in the place of each answer that is a refusal. CHOICE is a place or `-`, LIST how many places the equal
 // list has and, where it has one, the first of them. AXES says how many axes the fetched face has. A synthesis is made
 // under reading 0. A slant is one under each reading and under two numbers that are none, with each value by its bits.
+#![tactic(auto)]
+
 use font::attributes::{Angle, Attributes, FontStyle, FontWeight, FontWidth};
 use font::font::{AxisInfo, FontInfo};
 use libc::STDOUT_FILENO;

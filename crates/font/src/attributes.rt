@@ -5,30 +5,30 @@ ghost use Rattle.font.specs.Attributes.{attributes_of, accepted_angle, accepted_
 use crate::single;
 
 // The angle of an oblique style, in degrees, or none stated.
-#[derive(Drop)]
+#[derive(Clone, Copy)]
 pub enum Angle {
     Unstated,
     Degrees(f32),
 }
 
-#[derive(Drop)]
+#[derive(Clone, Copy)]
 pub enum FontStyle {
     Normal,
     Italic,
     Oblique(Angle),
 }
 
-#[derive(Drop)]
+#[derive(Clone, Copy)]
 pub struct FontWidth {
     pub ratio: f32,
 }
 
-#[derive(Drop)]
+#[derive(Clone, Copy)]
 pub struct FontWeight {
     pub value: f32,
 }
 
-#[derive(Drop)]
+#[derive(Clone, Copy)]
 pub struct Attributes {
     pub width: FontWidth,
     pub style: FontStyle,

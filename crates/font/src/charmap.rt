@@ -10,21 +10,21 @@ use crate::tables;
 use crate::tables::Table;
 
 // The file offset of a subtable, and what its encoding asks of a lookup.
-#[derive(Drop)]
+#[derive(Clone, Copy)]
 pub struct CharmapIndex {
     pub subtable_offset: usize,
     pub is_symbol: bool,
     pub is_mac_roman: bool,
 }
 
-#[derive(Drop)]
+#[derive(Clone, Copy)]
 pub enum Charmap {
     Missing,
     Index(CharmapIndex),
 }
 
 // A record of `cmap` and its class.
-#[derive(Drop)]
+#[derive(Clone, Copy)]
 struct BestRecord {
     class: u8,
     i: usize,

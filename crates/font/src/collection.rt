@@ -41,7 +41,7 @@ fn collection_start(file: &[u8], number: u16) -> usize
 }
 
 // Where the directory of a font begins, and the number that stands there.
-#[derive(Drop)]
+#[derive(Clone, Copy)]
 pub(crate) struct Beginning {
     pub start: usize,
     pub version: u32,

@@ -26,7 +26,7 @@ const FVAR: u32 = 0x6676_6172;
 const RATIOS: [f32; 9] = [0.5, 0.5, 0.625, 0.75, 0.875, 1.0, 1.125, 1.25, 1.5];
 
 // An axis of variation. The tag is its four bytes as a big-endian number.
-#[derive(Drop)]
+#[derive(Clone, Copy)]
 pub struct AxisInfo {
     pub tag: u32,
     pub min: f32,
@@ -44,7 +44,7 @@ impl AxisInfo {
 }
 
 // A face by value. Axes past the count are no part of it.
-#[derive(Drop)]
+#[derive(Clone, Copy)]
 pub struct FontInfo {
     pub attributes: Attributes,
     pub axes: [AxisInfo; 16],
@@ -53,7 +53,7 @@ pub struct FontInfo {
 }
 
 // A face, and the number of the refusal, 0 for none. A face beside a refusal is not to be used.
-#[derive(Drop)]
+#[derive(Clone, Copy)]
 pub struct Checked {
     pub refusal: u8,
     pub font: FontInfo,
@@ -61,14 +61,14 @@ pub struct Checked {
 
 // What a font says of its attributes, or the number of the refusal: 25 for no reading, 31 where a table which they need is
 // damaged.
-#[derive(Drop)]
+#[derive(Clone, Copy)]
 pub enum FontAttributes {
     Refused(u8),
     Stated(Attributes),
 }
 
 // What the choice of a face looks at in a font.
-#[derive(Drop)]
+#[derive(Clone, Copy)]
 pub struct Stated {
     pub attributes: Attributes,
     pub has_axis: bool,

@@ -1,4 +1,6 @@
 // Font reading: single-precision numbers, OpenType tables, attributes, axes, the charmap index, and overrides.
+#![tactic(auto)]
+
 pub mod attributes;
 pub mod charmap;
 pub mod collection;

@@ -11,26 +11,26 @@ use crate::attributes::{Attributes, FontStyle, FontWeight, FontWidth};
 use crate::font::{AxisInfo, Checked, FontInfo};
 use crate::{attributes, single};
 
-#[derive(Drop)]
+#[derive(Clone, Copy)]
 pub enum WidthOverride {
     Keep,
     Set(FontWidth),
 }
 
-#[derive(Drop)]
+#[derive(Clone, Copy)]
 pub enum StyleOverride {
     Keep,
     Set(FontStyle),
 }
 
-#[derive(Drop)]
+#[derive(Clone, Copy)]
 pub enum WeightOverride {
     Keep,
     Set(FontWeight),
 }
 
 // The attributes to put in place of a face's own.
-#[derive(Drop)]
+#[derive(Clone, Copy)]
 pub struct FontInfoOverride {
     pub width: WidthOverride,
     pub style: StyleOverride,

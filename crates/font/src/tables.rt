@@ -3,7 +3,7 @@ ghost use Rattle.std.specs.Prelude.{◌≡◌, true, ◌+◌, ◌*◌, ◌^◌, 
 ghost use Rattle.font.specs.Tables.{u16_at, u32_at, swap_pair, swap_bytes, starts_as_font, directory_fits, first_record, table_of_record, find_table, table_data, handed_table, is_damaged};
 
 // What lookup answers of a tag: no record has it; the first record with it reaches past the file or is too short; or where its table lies.
-#[derive(Drop)]
+#[derive(Clone, Copy)]
 pub(crate) enum Table {
     Absent,
     Damaged,

@@ -3,6 +3,8 @@
 // The files `stdin` and `stdout` of this crate are what `cargo run --release -- fonts --out DIR` writes in
 // `rust/reference`: the list, and what the original sources answer on it, or `rust/plain` for a font that is refused with
 // 31, since the original takes a damaged table for absent. `rust/README.md` says what both hold, in "The list of fonts".
+#![tactic(auto)]
+
 use font::attributes::{Angle, Attributes, FontStyle};
 use font::charmap::CharmapIndex;
 use font::font::{AxisInfo, Checked, FontInfo};

@@ -4,6 +4,8 @@
 // The files `stdin` and `stdout` of this crate are what `cargo run --release -- families --out DIR` writes in
 // `rust/reference`: the list, and what the original sources answer on it. `rust/README.md` says what both hold, in
 // "The list of families". A case that is refused prints `refused N`; the list has none.
+#![tactic(auto)]
+
 ghost use Rattle.std.specs.Prelude.{◌+◌, ◌*◌, ◌^◌, ◌<◌, ◌≤◌};
 
 use font::attributes::{Angle, Attributes, FontStyle, FontWeight, FontWidth};

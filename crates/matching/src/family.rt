@@ -7,7 +7,7 @@ use crate::{matching, stages};
 use font::font::FontInfo;
 
 // The faces of a family by value, with the place of its default. Faces past the count are no part of it.
-#[derive(Drop)]
+#[derive(Clone, Copy)]
 pub struct FamilyInfo {
     pub fonts: [FontInfo; 64],
     pub count: usize,
@@ -15,14 +15,14 @@ pub struct FamilyInfo {
 }
 
 // A family that was made, with the refusal, which is 0 for none.
-#[derive(Drop)]
+#[derive(Clone, Copy)]
 pub struct Made {
     pub refusal: u8,
     pub family: FamilyInfo,
 }
 
 // A face that was fetched, with the refusal, which is 0 for none.
-#[derive(Drop)]
+#[derive(Clone, Copy)]
 pub struct Fetched {
     pub refusal: u8,
     pub font: FontInfo,

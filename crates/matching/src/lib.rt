@@ -1,4 +1,6 @@
 // Matching: the order of faces, the choice, the equal list, the default, and synthesis.
+#![tactic(auto)]
+
 pub mod axes;
 pub mod face;
 pub mod family;

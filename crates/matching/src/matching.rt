@@ -15,7 +15,7 @@ use font::font::FontInfo;
 use font::{overrides, single};
 
 // What is chosen of a family: a place, nothing, or a refusal.
-#[derive(Drop)]
+#[derive(Clone, Copy)]
 pub enum Choice {
     Place(usize),
     Nothing,
@@ -23,7 +23,7 @@ pub enum Choice {
 }
 
 // The equal list, with the refusal, which is 0 for none.
-#[derive(Drop)]
+#[derive(Clone, Copy)]
 pub struct Matches {
     pub refusal: u8,
     pub list: Places,

@@ -16,7 +16,7 @@ const FOUR_HUNDRED: u32 = 0xC3C8_0000;
 const FIVE_HUNDRED: u32 = 0xC3FA_0000;
 
 // A request: its whole percent, its style and weight as numbers, and whether synthesis is on.
-#[derive(Drop)]
+#[derive(Clone, Copy)]
 pub struct Request {
     pub percent: u32,
     pub style: u32,

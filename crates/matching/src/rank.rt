@@ -3,7 +3,7 @@ ghost use Rattle.std.specs.Prelude.{◌≡◌, ◌<◌, min};
 ghost use Rattle.matching.specs.Packed.{packed, place_of};
 
 // Where a thing stands: the turn of its group and its order number there, or in no group.
-#[derive(Drop)]
+#[derive(Clone, Copy)]
 pub(crate) enum Standing {
     Up(u8, u32),
     Down(u8, u32),

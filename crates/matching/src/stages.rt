@@ -170,7 +170,7 @@ pub fn default_place(rows: &[Row], members: &[u8], count: usize) -> usize
 }
 
 // Places of a family, in order. Those past the count are zero.
-#[derive(Drop)]
+#[derive(Clone, Copy)]
 pub struct Places {
     pub places: [usize; 64],
     pub count: usize,

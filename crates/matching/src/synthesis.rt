@@ -8,14 +8,14 @@ use font::attributes::{Angle, Attributes, FontStyle};
 use font::{single, slant};
 
 // A variation setting: a tag and its value, or none.
-#[derive(Drop)]
+#[derive(Clone, Copy)]
 pub enum Setting {
     Unset,
     Set(u32, f32),
 }
 
 // How a face is brought to a style: as it stands, by a variation setting, or by a skew in degrees.
-#[derive(Drop)]
+#[derive(Clone, Copy)]
 enum Lean {
     Upright,
     Varied(u32, f32),
@@ -23,7 +23,7 @@ enum Lean {
 }
 
 // Which axes a face has, and the default of its first `wght`.
-#[derive(Drop)]
+#[derive(Clone, Copy)]
 pub struct Varies {
     pub width: bool,
     pub weight: bool,
@@ -33,7 +33,7 @@ pub struct Varies {
 }
 
 // Settings in three slots, those past the length zero; emboldening; skew in degrees. The refusal is 0 for none.
-#[derive(Drop)]
+#[derive(Clone, Copy)]
 pub struct Synthesis {
     pub refusal: u8,
     pub tags: [u32; 3],

@@ -4,6 +4,8 @@
 // The files `stdin` and `stdout` of this crate are what `cargo run --release -- jobs --out DIR` writes in
 // `rust/reference`: the list, and the offers of the original sources for it; refusals are those of `rust/plain`, which
 // are compared with the original's where it has any. `rust/README.md` says what both hold, in "The list of jobs".
+#![tactic(auto)]
+
 ghost use Rattle.std.specs.Prelude.{◌^◌, ◌<◌, ◌≤◌};
 
 use font::tables;

@@ -1,5 +1,7 @@
 // Reads a job of up to 65,536 bytes from standard input and prints its offers: under reading 0, or under the reading that
 // its one word names, `offers 0` or `offers 1`.
+#![tactic(auto)]
+
 use libc::{STDIN_FILENO, STDOUT_FILENO};
 use output::lines;
 

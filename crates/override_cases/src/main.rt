@@ -7,6 +7,8 @@
 //     NAME: RATIO KIND ANGLE WEIGHT TAG=MIN,DEFAULT,MAX ..
 //
 // with the fields of the list of fonts (`rust/README.md`), and an axis only where the face has it.
+#![tactic(auto)]
+
 use font::attributes::{Angle, Attributes, FontStyle, FontWeight, FontWidth};
 use font::font::{AxisInfo, Checked, FontInfo};
 use font::overrides::{FontInfoOverride, StyleOverride, WeightOverride, WidthOverride};

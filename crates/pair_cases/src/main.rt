@@ -12,6 +12,8 @@
 //
 // Refusal 17 is not among them: an array lies on the stack, of which a program has 8 MiB, and there is no other place for
 // a job of more than 16 MiB.
+#![tactic(auto)]
+
 mod fonts;
 mod jobs;
 mod print;

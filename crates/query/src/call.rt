@@ -62,7 +62,7 @@ fn with_synthesis(offer: Offer, font: FontInfo, reading: u32, wanted: Attributes
 
 // What the search for an offer gives: 0 and the offer, with its face's number, where that face's entry and the overrides
 // lie, and the request's attributes; else the result alone.
-#[derive(Drop)]
+#[derive(Clone, Copy)]
 pub(crate) struct SearchResult {
     pub result: u32,
     pub offer: Offer,

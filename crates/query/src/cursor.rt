@@ -7,14 +7,14 @@ use crate::answer::Answer;
 use crate::call;
 
 // A request and the number of its next offer. Any two numbers make a cursor.
-#[derive(Drop)]
+#[derive(Clone, Copy)]
 pub struct Cursor {
     pub request: u32,
     pub next: u32,
 }
 
 // What a step hands back: the cursor, and the next offer, or why there is none.
-#[derive(Drop)]
+#[derive(Clone, Copy)]
 pub struct Step {
     pub cursor: Cursor,
     pub answer: Answer,

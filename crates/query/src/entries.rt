@@ -91,7 +91,7 @@ fn pair(job: &[u8], at: usize) -> At
 }
 
 // What a run has several of. Face numbers are told how many faces the job has.
-#[derive(Drop)]
+#[derive(Clone, Copy)]
 enum Item {
     Pair,
     FaceNumber(u16),

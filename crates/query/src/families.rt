@@ -13,7 +13,7 @@ use matching::rows::{MARKS, Row};
 use matching::{rows, stages};
 
 // The place of a family's offer, or how far past the family's offers the number lies.
-#[derive(Drop)]
+#[derive(Clone, Copy)]
 pub(crate) enum FamilyOffer {
     Place(u16),
     Left(usize),

@@ -14,7 +14,7 @@ use font::font::font_refusal;
 use font::{single, tables};
 
 // How reading ended: a refusal and its field's position, or 0 and the next position.
-#[derive(Drop)]
+#[derive(Clone, Copy)]
 pub(crate) struct At {
     pub refusal: u8,
     pub at: usize,
@@ -174,7 +174,7 @@ pub(crate) fn spare_word(job: &[u8], at: usize) -> At
 }
 
 // What stands behind a font file: the number of its font, and where its face ends.
-#[derive(Drop)]
+#[derive(Clone, Copy)]
 pub(crate) struct Behind {
     pub number: u16,
     pub next: usize,

@@ -11,7 +11,7 @@ use crate::sizes;
 use font::tables;
 
 // The refusal of a job and its field's position, or 0 and 0.
-#[derive(Drop)]
+#[derive(Clone, Copy)]
 pub struct Checked {
     pub refusal: u8,
     pub position: usize,
@@ -19,7 +19,7 @@ pub struct Checked {
 
 // How the walk through a job ended; and of an accepted job where its overrides begin, how many requests it has, and where
 // the asked one begins.
-#[derive(Drop)]
+#[derive(Clone, Copy)]
 pub(crate) struct Walked {
     pub refusal: u8,
     pub position: usize,

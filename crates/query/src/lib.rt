@@ -1,4 +1,6 @@
 // Jobs and offers: the job's layout and refusals, the check call, the offers of a request, and the cursor.
+#![tactic(auto)]
+
 pub mod answer;
 pub mod call;
 pub mod cursor;

@@ -15,14 +15,14 @@ use matching::order::Request;
 use matching::rows::Row;
 
 // An offer of a list of families, or how far past their offers the number lies.
-#[derive(Drop)]
+#[derive(Clone, Copy)]
 enum ListOffer {
     At(Offer),
     Left(usize),
 }
 
 // An offer of a request, or past its list.
-#[derive(Drop)]
+#[derive(Clone, Copy)]
 pub(crate) enum Offered {
     At(Offer),
     Past,

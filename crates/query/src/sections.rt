@@ -11,7 +11,7 @@ use crate::{entries, fields, sizes};
 use font::tables;
 
 // A section. Overrides and families are told how many faces the job has.
-#[derive(Drop)]
+#[derive(Clone, Copy)]
 pub(crate) enum Section {
     Faces,
     Overrides(u16),

@@ -1,4 +1,6 @@
 // The calls for a layout program in Rust or C.
+#![tactic(auto)]
+
 ghost use Rattle.std.specs.Prelude.{◌≡◌, ◌+◌, ◌*◌};
 ghost use Rattle.query.specs.Job.{check_job};
 ghost use Rattle.query.specs.Call.{offer_call, Calls};
