@@ -38,7 +38,7 @@ module _ (file : List ℕ) (start tag : ℕ) where
   one_first i j f g = go (ltb i j) (ltb j i) refl refl
     where
       go : (a b : Bool) → ltb i j ≡ a → ltb j i ≡ b → i ≡ j
-      go true b e h = absurd (g.none-before i (ltb-true i j e) f.has)
+      go true b e h = absurd (g.none_before i (ltb-true i j e) f.has)
       go false true e h = absurd (f.none_before j (ltb-true j i h) g.has)
       go false false e h = omega (arith, ltb-false i j e, ltb-false j i h)
 

@@ -4,7 +4,7 @@ use mathlib.Core.Path.{◌≡◌, refl, ◌∙◌}
 use mathlib.Core.List.{List, [], ◌∷◌, map}
 use native.Mathlib.Omega.{arith}
 use native.Mathlib.Nat.{div-one}
-use lib.ListN.{length, get_or, get_or-map, get_or_eq_default}
+use lib.ListN.{length, get_or, get_or-map, get_or-eq_default}
 use lib.Dec.{eqb}
 use lib.Ieee.{nan}
 use Rattle.font.specs.StatedAttributes.{bit, thousandths, class_widths, width_of_class}
@@ -22,7 +22,7 @@ listed class h =
 
 pub past : (class : ℕ) → 9 ≤ class → thousandths 2000 ≡ width_of_class class
 unfolding width_of_class class_widths
-past class h = rw (get_or_eq_default class_widths 2000 {n = class} h)
+past class h = rw (get_or-eq_default class_widths 2000 {n = class} h)
 
 pub lowest : (n : ℕ) → bit 0 n ≡ eqb (n % 2) 1
 unfolding bit

@@ -2,7 +2,7 @@
 use mathlib.Core.Path.{◌≡◌, refl, sym, ap, ap₂, ◌∙◌, subst, subst₂}
 use mathlib.Core.Bool.{Bool, true, false, not, ◌&&◌, ◌||◌, beq}
 use Prim.Native.Nat.{ℕ, ◌+◌, ◌*◌, ◌<◌, ◌^◌}
-use native.Mathlib.Nat.{mul_assoc, mul_comm, mul_right_comm, zero-mul, add-mul, mul-pos, mul-lt-mul_of_pos_right, lt_of_mul_lt_mul_right, eq_of_mul-eq-mul_right, le_of_lt, lt_irrefl, lt_of_lt_of_le, le-add_left, le-add_right}
+use native.Mathlib.Nat.{mul_assoc, mul_comm, mul_right_comm, zero-mul, add-mul, mul-pos, mul-lt-mul_of_pos_right, lt_of_mul-lt-mul_right, eq_of_mul-eq-mul_right, le_of_lt, lt_irrefl, lt_of_lt_of_le, le-add_left, le-add_right}
 use lib.Dec.{T, ltb, eqb, ltb→lt, lt→ltb, eqb→eq}
 use lib.IntN.{ℤ}
 use lib.Pow.{pow_pos}
@@ -41,8 +41,8 @@ module _ (l w : ℕ) (L : 0 < l) (W : 0 < w) where
 
   as_lt : {u v n m : ℕ} → As u n → As v m → ltb u v ≡ ltb n m
   as_lt p q =
-      same_lt (λ h. lt_of_mul_lt_mul_right w (subst₂ ◌<◌ p.unit q.unit (mul-lt-mul_of_pos_right h L)))
-      (λ h. lt_of_mul_lt_mul_right l (subst₂ ◌<◌ (sym p.unit) (sym q.unit) (mul-lt-mul_of_pos_right h W)))
+      same_lt (λ h. lt_of_mul-lt-mul_right w (subst₂ ◌<◌ p.unit q.unit (mul-lt-mul_of_pos_right h L)))
+      (λ h. lt_of_mul-lt-mul_right l (subst₂ ◌<◌ (sym p.unit) (sym q.unit) (mul-lt-mul_of_pos_right h W)))
 
   as_eq : {u v n m : ℕ} → As u n → As v m → eqb u v ≡ eqb n m
   as_eq {u} {v} {n} {m} p q =

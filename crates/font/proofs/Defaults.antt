@@ -7,7 +7,7 @@ use native.Mathlib.Omega.{arith}
 use native.Mathlib.Numerals.{add-one}
 use lib.Dec.{ltb, eqb}
 use lib.Ieee.{Float, nan}
-use lib.ListN.{length, get_or, set, length-set, get_or_eq_default}
+use lib.ListN.{length, get_or, set, length-set, get_or-eq_default}
 use lib.Seq.{get_or-set_same, get_or-set_other}
 use borrow.Author.Tests.{ltb-true, ltb-false, eqb-true, eqb-false}
 use Rattle.font.specs.declared.font.AxisInfo.{AxisInfo}
@@ -53,7 +53,7 @@ module _ {A : Type 0} (part : AxisInfo → A) (keeps : (a : AxisInfo) (x : Float
           let past = ltb-false j (length xs) t in
           let here = eqb-true i j s in
           let long : length (set xs j v) ≤ i = omega (arith, length-set xs j v) in
-          ap part (get_or_eq_default (set xs j v) _ long ∙ sym (get_or_eq_default xs _ (omega arith)))
+          ap part (get_or-eq_default (set xs j v) _ long ∙ sym (get_or-eq_default xs _ (omega arith)))
 
   part_default : (xs : List AxisInfo) (n tag : ℕ) (x : Float) (i : ℕ) → part (axis_of (set_default xs n tag x) i) ≡ part (axis_of xs i)
   unfolding set_default

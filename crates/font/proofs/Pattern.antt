@@ -3,7 +3,7 @@
 use mathlib.Core.Path.{◌≡◌, refl, sym, ap, ◌∙◌, subst}
 use mathlib.Core.Logic.{inl, inr}
 use Prim.Native.Nat.{ℕ, ◌+◌, ◌-◌, ◌*◌, ◌/◌, ◌^◌, ◌≤◌, ◌<◌}
-use native.Mathlib.Nat.{mul_assoc, lt_of_mul_lt_mul_right, le-div_iff_mul-le, eq-or-lt_of_le, lt_trans, lt_of_le_of_lt}
+use native.Mathlib.Nat.{mul_assoc, lt_of_mul-lt-mul_right, le-div_iff_mul-le, eq-or-lt_of_le, lt_trans, lt_of_le_of_lt}
 use native.Mathlib.Omega.{arith}
 use lib.Dec.{lit<}
 use lib.Pow.{pow-add, pow_pos, shl_lt, shl-shr}
@@ -48,7 +48,7 @@ pattern_mono m n M N h = elim (eq-or-lt_of_le (dropped_mono m n h)) [
   where
     quotients : dropped m ≡ dropped n → kept m < kept n
     quotients e =
-        lt_of_mul_lt_mul_right (2 ^ dropped n) (subst (λ (x : ℕ). kept m * 2 ^ x < kept n * 2 ^ dropped n) e (rw (M.exact, N.exact) h))
+        lt_of_mul-lt-mul_right (2 ^ dropped n) (subst (λ (x : ℕ). kept m * 2 ^ x < kept n * 2 ^ dropped n) e (rw (M.exact, N.exact) h))
 
 pub pattern_zero : pattern 0 ≡ 0
 unfolding pattern size

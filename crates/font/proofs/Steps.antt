@@ -2,7 +2,7 @@
 use mathlib.Core.Path.{◌≡◌, refl, sym, subst}
 use mathlib.Core.Bool.{Bool, not, ◌&&◌, cond}
 use Prim.Native.Nat.{ℕ, zero, suc, ◌+◌, ◌-◌, ◌*◌, ◌/◌, ◌%◌, ◌^◌, ◌≤◌, ◌<◌}
-use native.Mathlib.Nat.{mul_right_comm, zero-mul, add_assoc, mul-pos, mul-le-mul_right, mul-lt-mul_of_pos_right, lt_of_mul_lt_mul_right, le_of_lt, le_of_eq, le_trans, le_refl, div-eq_of_eq-mul_left, one-mul}
+use native.Mathlib.Nat.{mul_right_comm, zero-mul, add_assoc, mul-pos, mul-le-mul_right, mul-lt-mul_of_pos_right, lt_of_mul-lt-mul_right, le_of_lt, le_of_eq, le_trans, le_refl, div-eq_of_eq-mul_left, one-mul}
 use lib.Dec.{T, eqb, leb, ltb, lit<, eqb→eq, ltb→lt, leb→le}
 use lib.IntN.{ℤ}
 use lib.Pow.{pow_pos}
@@ -56,7 +56,7 @@ bounds s (suc m) e h =
 
 under : (l t a d n : ℕ) → 0 < l → a < t * d → a * l ≡ n * d → n < t * l
 under l t a d n L h e =
-    lt_of_mul_lt_mul_right d (subst (λ (x : ℕ). x < t * l * d) e (subst (λ (x : ℕ). a * l < x) (mul_right_comm t d l) (mul-lt-mul_of_pos_right h L)))
+    lt_of_mul-lt-mul_right d (subst (λ (x : ℕ). x < t * l * d) e (subst (λ (x : ℕ). a * l < x) (mul_right_comm t d l) (mul-lt-mul_of_pos_right h L)))
 
 pub record Value (m : ℕ) (e : ℤ) (n : ℕ) : Type 0 where
   pub scale : m * up e * 2 ^ 149 ≡ n * down e

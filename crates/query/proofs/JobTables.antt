@@ -4,7 +4,7 @@ use mathlib.Core.Path.{◌≡◌, refl, sym, ap, ◌∙◌, subst}
 use mathlib.Core.Bool.{Bool, true, false}
 use mathlib.Core.List.{List, []}
 use native.Mathlib.Omega.{arith}
-use lib.ListN.{length, get_or, get_or-map, get_or_eq_default}
+use lib.ListN.{length, get_or, get_or-map, get_or-eq_default}
 use borrow.Author.Tests.{leb-true}
 use Rattle.font.specs.declared.attributes.Attributes.{Attributes}
 use Rattle.font.specs.declared.font.FontInfo.{FontInfo}
@@ -198,7 +198,7 @@ module _ {s : List ℕ} {w : Walked} {before families : List ℕ} {asked : ℕ} 
         past_families : (k : ℕ) → k < most_families → length (job_of s).families ≤ k
             → FamilyIn s (get_or families k 0) (length (job_of s).faces) (get_or (job_of s).families k no_family).members
         past_families k l h =
-            rw ((walks.kept z).kept k h, fresh k l, get_or_eq_default (job_of s).families no_family h) (unknown_family s (length (job_of s).faces) parts.short)
+            rw ((walks.kept z).kept k h, fresh k l, get_or-eq_default (job_of s).families no_family h) (unknown_family s (length (job_of s).faces) parts.short)
 
         family_there : (k : ℕ) → k < most_families → Tri k (length (job_of s).families)
             → FamilyIn s (get_or families k 0) (length (job_of s).faces) (get_or (job_of s).families k no_family).members

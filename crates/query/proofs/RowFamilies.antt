@@ -5,7 +5,7 @@ use mathlib.Core.Bool.{Bool, true, false, cond}
 use mathlib.Core.List.{List, [], ◌∷◌, map}
 use native.Mathlib.Omega.{arith}
 use lib.Dec.{ltb, eqb}
-use lib.ListN.{length, get_or, set, length-map, length-set, get_or_eq_default}
+use lib.ListN.{length, get_or, set, length-map, length-set, get_or-eq_default}
 use lib.Seq.{get_or-set_same, get_or-set_other}
 use borrow.Author.Tests.{lt-ltb, eq-eqb, ne_eqb, ltb-true, ltb-false}
 use Rattle.font.specs.Tables.{u16_at}
@@ -59,7 +59,7 @@ number_offers_lem view request f = go (ltb f (length view.families)) refl
     all = family_offers (family_of (faces_of view f) (length (faces_of view f))) (held_in view f) request
 
     no_faces : length view.families ≤ f → length (faces_of view f) ≡ 0
-    no_faces l = rw (get_or_eq_default view.families [] l) refl
+    no_faces l = rw (get_or-eq_default view.families [] l) refl
 
     empty : length view.families ≤ f → all ≡ []
     empty l = none_offered (family_of (faces_of view f) (length (faces_of view f))) (held_in view f) request (no_faces l)
@@ -74,7 +74,7 @@ module _ {s : List ℕ} {rows : List (List ℕ)} {families : List ℕ} (loaded :
   no_members : (f : ℕ) → most_families ≤ f → members_in s f ≡ []
   unfolding families_of
   no_members f l =
-      get_or_eq_default (families_of (job_of s)) [] (omega (arith, loaded.known, length-map (job_of s).families (λ (m : Family). m.members)))
+      get_or-eq_default (families_of (job_of s)) [] (omega (arith, loaded.known, length-map (job_of s).families (λ (m : Family). m.members)))
 
   pub unknown_number : (request : Request) (f : ℕ) → most_families ≤ f → row_offers s rows request f ≡ []
   unfolding row_offers row_family

@@ -5,7 +5,7 @@ use mathlib.Core.Bool.{Bool, true, false, not, ◌&&◌, cond}
 use mathlib.Core.List.{List, [], ◌∷◌, ◌++◌, map}
 use native.Mathlib.Omega.{arith}
 use lib.Dec.{ltb}
-use lib.ListN.{length, get_or, take, length-take, length-append, length-map, get_or-append, get_or_eq_default}
+use lib.ListN.{length, get_or, take, length-take, length-append, length-map, get_or-append, get_or-eq_default}
 use lib.Seq.{get_or-append-add, get_or-take}
 use borrow.Author.Tests.{ltb-true, ltb-false}
 use Rattle.matching.specs.declared.order.Request.{Request}
@@ -173,7 +173,7 @@ module _ (s : List ℕ) (rows : List (List ℕ)) (request : Request) where
       go : (b : Bool) → ltb f (length (families_of (job_of s))) ≡ b → Names s (offer_of f place)
       go true t = record { family = ltb-true f (length (families_of (job_of s))) t; place = inside }
       go false t =
-          absurd (omega (arith, inside, ap length (get_or_eq_default (families_of (job_of s)) [] (ltb-false f (length (families_of (job_of s))) t))))
+          absurd (omega (arith, inside, ap length (get_or-eq_default (families_of (job_of s)) [] (ltb-false f (length (families_of (job_of s))) t))))
 
   pub offers_named : (most : ℕ) (named fallbacks : List ℕ) (k : ℕ) → k < length (offers (row_offers s rows request) most named fallbacks)
       → Names s (get_or (offers (row_offers s rows request) most named fallbacks) k (offer_of 0 0))

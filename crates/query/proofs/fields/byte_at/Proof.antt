@@ -1,7 +1,7 @@
 -- `query::fields::byte_at` meets its contract: past the end `get_or` gives its default.
 -- Assumes nothing.
 use mathlib.Core.Path.{sym}
-use lib.ListN.{get_or_eq_default}
+use lib.ListN.{get_or-eq_default}
 use borrow.Author.Rules.{rules}
 use Rattle.query.proofs.fields.byte_at.Statement.{statement}
 use Rattle.query.proofs.fields.byte_at.Tie as tie
@@ -13,7 +13,7 @@ returns : tie.Need-returns
 returns c = search rules
 
 returns_2 : tie.Need-returns-2
-returns_2 c = sym (get_or_eq_default c.before.args.job.now 0 c.if1.false)
+returns_2 c = sym (get_or-eq_default c.before.args.job.now 0 c.if1.false)
 
 pub byte-at-spec : {M : Type 1} → statement M
 byte-at-spec = tie.close (tie.spec shared-slice-read-result returns returns_2)
