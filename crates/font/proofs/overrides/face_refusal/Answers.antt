@@ -1,0 +1,7 @@
+use Rattle.font.specs.Overrides.{face_refusal}
+use borrow.Author.Rules.{rules}
+use Rattle.font.proofs.overrides.face_refusal.Goals as goal
+
+pub returns : goal.returns
+unfolding face_refusal
+returns c = c.refusal_of.ensures

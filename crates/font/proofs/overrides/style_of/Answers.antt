@@ -1,0 +1,11 @@
+use Rattle.font.specs.Overrides.{style_of}
+use borrow.Author.Rules.{rules}
+use Rattle.font.proofs.overrides.style_of.Goals as goal
+
+pub returns-in-Set : goal.returns-in-Set
+unfolding style_of
+returns-in-Set c = simp c.in-Set.is
+
+pub returns-in-Keep : goal.returns-in-Keep
+unfolding style_of
+returns-in-Keep c = simp c.in-Keep.is

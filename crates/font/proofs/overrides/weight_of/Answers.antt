@@ -1,0 +1,11 @@
+use Rattle.font.specs.Overrides.{weight_of}
+use borrow.Author.Rules.{rules}
+use Rattle.font.proofs.overrides.weight_of.Goals as goal
+
+pub returns-in-Set : goal.returns-in-Set
+unfolding weight_of
+returns-in-Set c = simp c.in-Set.is
+
+pub returns-in-Keep : goal.returns-in-Keep
+unfolding weight_of
+returns-in-Keep c = simp c.in-Keep.is

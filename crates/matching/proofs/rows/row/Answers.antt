@@ -1,0 +1,7 @@
+use Rattle.matching.specs.Rows.{row_of}
+use borrow.Author.Rules.{rules}
+use Rattle.matching.proofs.rows.row.Goals as goal
+
+pub returns : goal.returns
+unfolding row_of
+returns c = simp (c.whole_percent.ensures, c.style_number.ensures, c.order_number.ensures, c.order_number-2.ensures)

@@ -1,0 +1,16 @@
+use borrow.Author.Tests.{eq-eqb, ne_eqb}
+use Rattle.matching.specs.Synthesis.{weight_setting, wght}
+use borrow.Author.Rules.{rules}
+use Rattle.matching.proofs.synthesis.weight_setting.Goals as goal
+
+pub returns-then-order_number : goal.returns-then-order_number
+unfolding weight_setting wght
+returns-then-order_number c = simp (← c.order_number.ensures, ← c.order_number-then-varies.ensures, c.if-varies.true, ne_eqb _ _ c.if-order_number.true)
+
+pub returns-else-order_number : goal.returns-else-order_number
+unfolding weight_setting wght
+returns-else-order_number c = simp (← c.order_number.ensures, ← c.order_number-then-varies.ensures, c.if-varies.true, eq-eqb _ _ c.if-order_number.false)
+
+pub returns-else-varies : goal.returns-else-varies
+unfolding weight_setting wght
+returns-else-varies c = simp c.if-varies.false

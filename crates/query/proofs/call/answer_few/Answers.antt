@@ -1,0 +1,13 @@
+use native.Mathlib.Omega.{arith}
+use Rattle.query.proofs.JobTables.{faces_counted}
+use borrow.Author.Rules.{rules}
+use Rattle.query.proofs.call.answer_few.Goals as goal
+
+pub search_with-requires : goal.search_with-requires
+search_with-requires c = (c.requires.0, omega (arith, c.requires.1, (faces_counted c.args.job.now).0))
+
+pub answer_found-requires : goal.answer_found-requires
+answer_found-requires c = (c.requires.0, c.search_with.ensures.readable)
+
+pub returns : goal.returns
+returns c = c.search_with.ensures.leads c.answer_found.ensures

@@ -1,0 +1,15 @@
+use mathlib.Core.Path.{ap, ◌∙◌}
+use native.Mathlib.Omega.{arith}
+use lib.Dec.{eqb}
+use Rattle.query.specs.declared.answer.Answer.{Answer}
+use Rattle.query.specs.Cursor.{after, is_offer, stepped}
+use Rattle.query.proofs.Demands.{demands}
+use borrow.Author.Rules.{rules}
+use Rattle.query.proofs.cursor.Cursor.step.Goals as goal
+
+pub returns : goal.returns
+unfolding stepped is_offer
+returns c =
+    let e = c.offer_at-answer.ensures in
+    let go = c.after-self.ensures ∙ ap (λ (x : Answer). after c.args.self (eqb x.result 0)) e in
+    ((λ i. record { cursor = go i; answer = e i }), demands _ (λ i. omega (arith, c.shared_slice_known-1.given i)))

@@ -1,0 +1,16 @@
+use Prim.Native.Nat.{ℕ, ◌-◌, ◌≤◌}
+use mathlib.Core.Path.{◌≡◌, sym, ap, ◌∙◌}
+use native.Mathlib.Omega.{arith}
+use borrow.Author.Rules.{rules}
+use Rattle.font.specs.Overrides.{with_axes, with_defaults}
+use Rattle.font.proofs.Defaults.{no_pairs}
+use Rattle.query.specs.Values.{pairs_at}
+use Rattle.query.specs.CallTables.{after_pairs}
+use Rattle.query.proofs.OverriddenFaces.{more_pairs}
+use Rattle.query.proofs.faces.with_pairs.Given as goal
+
+abbrev pub invariant-loop-k : goal.invariant-loop-k
+invariant-loop-k l = (l.k ≤ l.count) × (l.set ≡ after_pairs (pairs_at l.job l.at l.count) l.k l.initial.set)
+
+abbrev pub decreases-loop-k : goal.decreases-loop-k
+decreases-loop-k l = l.count - l.k

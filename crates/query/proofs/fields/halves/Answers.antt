@@ -1,0 +1,10 @@
+use native.Mathlib.Omega.{arith}
+use Rattle.query.proofs.Halves.{halves_fit, halves_past}
+use borrow.Author.Rules.{rules}
+use Rattle.query.proofs.fields.halves.Goals as goal
+
+pub returns-then-fit-count : goal.returns-then-fit-count
+returns-then-fit-count c = halves_past _ _ _ _ c.if-fit-count.true (omega arith) (omega arith)
+
+pub returns : goal.returns
+returns c = halves_fit _ _ _ (omega arith)

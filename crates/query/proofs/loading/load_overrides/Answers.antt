@@ -1,0 +1,28 @@
+use Prim.Native.Nat.{◌+◌, ◌*◌, ◌-◌, ◌≤◌}
+use mathlib.Core.Logic.{⊎_elim}
+use native.Mathlib.Omega.{arith}
+use Rattle.query.proofs.OverriddenRows.{RowsLeft, rows_first, row_changed, no_row, rows_last}
+use borrow.Author.Rules.{rules}
+use Rattle.query.proofs.loading.load_overrides.Goals as goal
+
+pub loop-i-init : goal.loop-i-init
+loop-i-init c = (omega arith, omega arith, rows_first)
+
+pub loop-i-preserved : goal.loop-i-preserved
+loop-i-preserved c =
+    let left = c.loop-i.invariant.2 in
+    let named = c.u16_at-face.ensures in
+    let next = c.override_end-place.ensures in (
+      omega arith,
+      omega (arith, next.1),
+      ⊎_elim
+          (λ w. rw w.4 (row_changed (omega arith) left next.0 named w.2.ensures w.3.ensures))
+          (λ w. rw w.1 (no_row (omega arith) left next.0 named w.0.left))
+          c.if-face-rows.branch,
+    )
+
+pub shape_of-rows : goal.shape_of-rows
+shape_of-rows c = c.loop-i.invariant.2.long
+
+pub returns : goal.returns
+returns c = rows_last c.loop-i.invariant.2 c.loop-i-test.false

@@ -1,0 +1,16 @@
+use Prim.Native.Nat.{◌-◌}
+use mathlib.Core.Path.{◌≡◌, refl, ◌∙◌}
+use native.Mathlib.Omega.{arith}
+use lib.ListN.{length}
+use Rattle.query.specs.Sections.{read_entry}
+use Rattle.query.specs.Positions.{KeptFrom}
+use Rattle.query.proofs.Leaves.{entry_begins}
+use Rattle.query.proofs.NotedEntries.{Passed, started, stopped, onward, finished, kept_on}
+use borrow.Author.Rules.{rules}
+use Rattle.query.proofs.sections.entry_run.Given as goal
+
+abbrev pub invariant-loop-i : goal.invariant-loop-i
+invariant-loop-i l = Passed (read_entry l.section) l.job l.at l.count l.first l.table l.place l.i × KeptFrom (l.count - l.first) l.initial.table l.table × (length l.table ≡ length l.initial.table)
+
+abbrev pub decreases-loop-i : goal.decreases-loop-i
+decreases-loop-i l = l.count - l.i

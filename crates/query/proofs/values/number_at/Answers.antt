@@ -1,0 +1,28 @@
+use Prim.Native.Nat.{ℕ}
+use mathlib.Core.Path.{◌≡◌, sym, ◌∙◌}
+use mathlib.Core.Bool.{false}
+use mathlib.Core.List.{List}
+use lib.Ieee.{binary32, of_bits, of_int, round}
+use lib.Ieee.Scale.{finite}
+use Rattle.font.specs.Single.{single}
+use Rattle.font.specs.Tables.{u32_at}
+use Rattle.font.proofs.FiniteBits.{finite_no_nan}
+use Rattle.query.specs.Values.{number_at}
+use borrow.Author.Rules.{rules}
+use Rattle.query.proofs.values.number_at.Goals as goal
+
+-- bits of no number
+number_none : (s : List ℕ) (p b : ℕ) → b ≡ u32_at s p → finite (of_bits binary32 b) ≡ false → single 0 ≡ number_at s p
+unfolding number_at
+number_none s p b e h = rw (← e, h)
+
+pub float_from_bits-result : goal.float_from_bits-result
+float_from_bits-result c = rw (finite_no_nan c.u32_at-bits.result (sym c.finite_bits.ensures ∙ c.if-finite_bits.true)) tt
+
+pub returns-then-finite_bits : goal.returns-then-finite_bits
+unfolding number_at
+returns-then-finite_bits c = rw (← c.u32_at-bits.ensures, ← c.finite_bits.ensures, c.if-finite_bits.true)
+
+pub returns-else-finite_bits : goal.returns-else-finite_bits
+unfolding single of_bits of_int round
+returns-else-finite_bits c = number_none _ _ _ c.u32_at-bits.ensures (sym c.finite_bits.ensures ∙ c.if-finite_bits.false)
