@@ -31,7 +31,10 @@ pub loop-i-preserved : goal.loop-i-preserved
 loop-i-preserved c =
     let class = c.record_class-class.ensures in
     let inv = c.loop-i.invariant.1 in
-    (search rules, ⊎_elim (λ w. rw (w.1, class) (best_new 4 _ _ _ _ inv (omega (arith, w.0.taken, class)))) (λ w. rw w.1 (best_kept 4 _ _ _ _ inv (omega (arith, w.0.left, class)))) c.if-class-best.branch, elim c.if-class-best.branch [
+    (omega arith, elim c.if-class-best.branch [
+      then-class-best w ↦ rw (w.best-is, class) (best_new 4 _ _ _ _ inv (omega (arith, w.if-class-best.true, class)))
+    | else-class-best w ↦ rw w.best-is (best_kept 4 _ _ _ _ inv (omega (arith, w.if-class-best.false, class)))
+    ], elim c.if-class-best.branch [
       then-class-best w ↦ rw w.best-is (omega arith)
     | else-class-best w ↦ rw w.best-is (omega arith)
     ])

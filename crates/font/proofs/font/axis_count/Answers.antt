@@ -17,7 +17,7 @@ returns-then-offset-count c =
     (
   simp
       (lt-ltb 0 (length c.args.fvar.now) (omega arith), sym c.u16_at.ensures, eq-eqb _ _ c.if-u16_at-eq20.true, sym c.u16_at-offset.ensures, sym c.u16_at-count.ensures, le-leb _ _ c.if-offset-count.true),
-  omega (arith, c.u16_at-count.type-inv),
+  omega (arith, c.u16_at-count.type_inv),
 )
 
 pub returns-else-offset-count : goal.returns-else-offset-count

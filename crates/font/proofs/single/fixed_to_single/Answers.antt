@@ -12,7 +12,7 @@ use Rattle.font.proofs.single.fixed_to_single.Goals as goal
 use Rattle.font.proofs.single.fixed_to_single.Goals.{After-nearest_bits-else-n-lt2147483648}
 
 -- what is written for a negative n: the sign's bit, and the bits of its magnitude
-written : (c : After-nearest_bits-else-n-lt2147483648) → 2 ^ 31 + c.nearest-bits2.result ≡ to_bits binary32 (round binary32 true (2 ^ 32 - c.before.before.args.n) 65536)
+written : (c : After-nearest_bits-else-n-lt2147483648) → 2 ^ 31 + c.nearest_bits-else-n-lt2147483648.result ≡ to_bits binary32 (round binary32 true (2 ^ 32 - c.args.n) 65536)
 written c = go c.args.n c.nearest_bits-else-n-lt2147483648.result c.if-n-lt2147483648.false (omega arith) c.nearest_bits-else-n-lt2147483648.ensures
   where
     same : (n : ℕ) → n < 2 ^ 32 → 0xFFFF_FFFF - n + 1 ≡ 2 ^ 32 - n
@@ -27,13 +27,13 @@ float_from_bits-result c = subst (λ (b : ℕ). T (not (nan_bits binary32 b))) (
 pub overflow_add-result : goal.overflow_add-result
 overflow_add-result c =
     let n = c.args.n in
-    record { fits = subst (λ (x : ℕ). x < 2 ^ 32) (sym (written c)) (to_bits-lt binary32 (round binary32 true (2 ^ 32 - n) 65536) (round-fits binary32 true (2 ^ 32 - n) 65536)) }
+    record { fits = subst (λ (x : ℕ). x < 2 ^ 32) (sym (written (goal.at.overflow_add-result c).After-nearest_bits-else-n-lt2147483648)) (to_bits-lt binary32 (round binary32 true (2 ^ 32 - n) 65536) (round-fits binary32 true (2 ^ 32 - n) 65536)) }
 
 pub float_from_bits-result-else-n-lt2147483648 : goal.float_from_bits-result-else-n-lt2147483648
-float_from_bits-result-else-n-lt2147483648 c = subst (λ (b : ℕ). T (not (nan_bits binary32 b))) (sym (written c)) (no_nan true (2 ^ 32 - c.args.n) (omega arith))
+float_from_bits-result-else-n-lt2147483648 c = subst (λ (b : ℕ). T (not (nan_bits binary32 b))) (sym (written (goal.at.float_from_bits-result-else-n-lt2147483648 c).After-nearest_bits-else-n-lt2147483648)) (no_nan true (2 ^ 32 - c.args.n) (omega arith))
 
 pub returns-then-n-lt2147483648 : goal.returns-then-n-lt2147483648
 returns-then-n-lt2147483648 c = let n = c.args.n in ap (of_bits binary32) c.nearest_bits.ensures ∙ read_back false n ∙ sym (fixed_positive n c.if-n-lt2147483648.true)
 
 pub returns-else-n-lt2147483648 : goal.returns-else-n-lt2147483648
-returns-else-n-lt2147483648 c = let n = c.args.n in ap (of_bits binary32) (written c) ∙ read_back true (2 ^ 32 - n) ∙ sym (fixed_negative n c.if-n-lt2147483648.false)
+returns-else-n-lt2147483648 c = let n = c.args.n in ap (of_bits binary32) (written (goal.at.returns-else-n-lt2147483648 c).After-nearest_bits-else-n-lt2147483648) ∙ read_back true (2 ^ 32 - n) ∙ sym (fixed_negative n c.if-n-lt2147483648.false)
