@@ -18,7 +18,7 @@ use Rattle.font.specs.declared.tables.Table.{Table}
 use Rattle.font.specs.declared.tables.Table.TheVariants.{Absent, Damaged, Found}
 use Rattle.font.specs.First.{first, some}
 use Rattle.font.specs.Attributes.{default_attributes}
-use Rattle.font.specs.Tables.{u16_at, u32_at, directory_fits, find_table, part_of, table_data, Handed, no_table, damaged_table, found_table, hand_out, handed_table, bytes_of, is_damaged}
+use Rattle.font.specs.Tables.{u16_at, u32_at, directory_fits, find_table, part_of, table_data, Handed, handed_table, bytes_of, is_damaged}
 use Rattle.font.specs.Collection.{font_start}
 use Rattle.font.specs.Charmap.{subtable_offset_of, pair_class, qualifies, record_class, some_qualifies, best_class, best_record, index_of, index_in, charmap_index_of}
 use Rattle.font.specs.StatedAttributes.{present, post_angle, os2_style, from_os2_post, from_head, from_tables, needs_post, needed_damaged, loses_needed, read_attributes}

@@ -11,7 +11,7 @@ use Rattle.font.specs.declared.charmap.Charmap.TheVariants.{Missing, Index}
 use Rattle.font.specs.declared.charmap.CharmapIndex.{CharmapIndex}
 use Rattle.font.specs.declared.font.FontInfo.{FontInfo}
 use Rattle.font.specs.First.{first, some, least_below, first_least}
-use Rattle.font.specs.Tables.{u16_at, u32_at, starts_as_font, record_count, record_tag, record_offset, record_length, directory_fits, first_record, table_of_record, find_table, part_of, table_data, hand_out, handed_table, bytes_of, is_damaged}
+use Rattle.font.specs.Tables.{u16_at, u32_at, starts_as_font, record_count, record_tag, record_offset, record_length, directory_fits, first_record, table_of_record, find_table, part_of, table_data, hand_out, handed_table, is_damaged}
 use Rattle.font.specs.Collection.{is_collection, header_fits, font_count, offsets_fit, offset_of, font_start}
 use Rattle.font.specs.Charmap.{is_pair, class_of, subtable_offset_of, lies_in, pair_class, qualifies, record_class, some_qualifies, best_class, best_record, index_of, index_in, charmap_index_of}
 use Rattle.font.specs.StatedAttributes.{present, needed_damaged, loses_needed}

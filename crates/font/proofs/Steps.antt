@@ -1,7 +1,7 @@
 -- What a single is made of: its sign, and its magnitude in steps of 2 ^ -149 (`Pattern.antt`). Its bits, its whole part and its order follow from the two. Assumes nothing.
 use mathlib.Core.Path.{◌≡◌, refl, sym, subst}
 use mathlib.Core.Bool.{Bool, not, ◌&&◌, cond}
-use Prim.Native.Nat.{ℕ, zero, suc, ◌+◌, ◌-◌, ◌*◌, ◌/◌, ◌%◌, ◌^◌, ◌≤◌, ◌<◌}
+use Prim.Native.Nat.{ℕ, zero, suc, ◌+◌, ◌*◌, ◌/◌, ◌%◌, ◌^◌, ◌≤◌, ◌<◌}
 use native.Mathlib.Nat.{mul_right_comm, zero-mul, add_assoc, mul-pos, mul-le-mul_right, mul-lt-mul_of_pos_right, lt_of_mul-lt-mul_right, le_of_lt, le_of_eq, le_trans, le_refl, div-eq_of_eq-mul_left, one-mul}
 use lib.Dec.{T, eqb, leb, ltb, lit<, eqb→eq, ltb→lt, leb→le}
 use lib.IntN.{ℤ}

@@ -1,21 +1,18 @@
 -- The two readings of a font (`specs/TwoReadings.antt`). Assumes nothing.
 use Prim.Native.Nat.{ℕ}
-use mathlib.Core.Path.{◌≡◌, refl, ap}
+use mathlib.Core.Path.{◌≡◌, refl}
 use mathlib.Core.Bool.{Bool, true, false, cond}
 use mathlib.Core.List.{List}
 use lib.Dec.{eqb}
 use lib.Ieee.{neg, eq, of_int, round}
 use Rattle.font.specs.declared.attributes.Angle.TheVariants.{Unstated, Degrees}
 use Rattle.font.specs.declared.attributes.FontStyle.TheVariants.{Normal, Italic, Oblique}
-use Rattle.font.specs.declared.attributes.Attributes.{Attributes}
-use Rattle.font.specs.declared.font.FontAttributes.TheVariants.{Stated}
-use Rattle.font.specs.declared.font.FontInfo.{FontInfo}
 use Rattle.font.specs.Single.{single, fixed_to_single}
 use Rattle.font.specs.Attributes.{attributes_of, default_attributes}
 use Rattle.font.specs.Slant.{is_reading, opposite, slant_under, opposite_angle, opposite_style, opposite_attributes, opposite_face}
 use Rattle.font.specs.Tables.{u16_at, u32_at, table_data}
 use Rattle.font.specs.Collection.{font_start}
-use Rattle.font.specs.StatedAttributes.{present, bit, width_of_class, post_angle, os2_style, from_os2_post, head_style, head_weight, from_head, from_tables, loses_needed, read_attributes}
+use Rattle.font.specs.StatedAttributes.{present, bit, width_of_class, post_angle, os2_style, from_os2_post, head_style, head_weight, from_head, from_tables, read_attributes}
 use Rattle.font.specs.Font.{empty_font, font_refusal, refusal_under, face_of, checked_by, checked_at, from_font_ref, stated_at}
 use Rattle.font.specs.TwoReadings.{Edges, Old, TwoReadings}
 

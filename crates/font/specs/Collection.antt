@@ -1,6 +1,6 @@
 -- The fonts of a file, from OpenType's "Font Collections": the TTC header. Both its versions begin with `ttcTag` (`ttcf`), the version's two numbers, `numFonts` at 8
 -- and `tableDirectoryOffsets` from 12; nothing else of it is looked at.
-use Rattle.std.specs.Prelude.{ℕ, ◌+◌, ◌*◌, Bool, ◌&&◌, cond, List, length, leb, ltb, eqb}
+use Rattle.std.specs.Prelude.{ℕ, ◌+◌, ◌*◌, Bool, cond, List, length, leb, ltb, eqb}
 use Rattle.font.specs.Tables.{u32_at}
 
 -- "files that start with `ttcf`"; every other file is that of a lone font

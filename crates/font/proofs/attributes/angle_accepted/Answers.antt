@@ -1,6 +1,5 @@
 use mathlib.Core.Path.{◌∙◌}
 use Rattle.font.specs.Attributes.{accepted_angle}
-use borrow.Author.Rules.{rules}
 use Rattle.font.proofs.attributes.angle_accepted.Goals as goal
 
 pub returns-in-Degrees : goal.returns-in-Degrees

@@ -1,6 +1,5 @@
 use mathlib.Core.Path.{◌∙◌}
 use Rattle.font.specs.Attributes.{accepted_style}
-use borrow.Author.Rules.{rules}
 use Rattle.font.proofs.attributes.style_accepted.Goals as goal
 
 pub returns-in-Oblique : goal.returns-in-Oblique

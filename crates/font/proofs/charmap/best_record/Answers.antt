@@ -1,12 +1,9 @@
 -- A record that does not lie in the table has the class 4, and so has every later one.
-use Prim.Native.Nat.{◌≤◌, ◌-◌}
 use mathlib.Core.Path.{◌≡◌}
-use borrow.Author.Rules.{rules}
 use native.Mathlib.Omega.{arith}
 use Rattle.font.specs.Charmap.{record_class, best_class, best_record}
-use Rattle.font.proofs.Least.{Best, best_start, best_new, best_kept, best_done}
+use Rattle.font.proofs.Least.{best_start, best_new, best_kept, best_done}
 use Rattle.font.proofs.Records.{best_before}
-use mathlib.Core.Logic.{⊎_elim}
 use Rattle.font.proofs.charmap.best_record.Goals as goal
 use Rattle.font.proofs.charmap.best_record.Goals.{else-class-best, then-class-best}
 
@@ -30,14 +27,17 @@ record_class-class-requires c = omega arith
 pub loop-i-preserved : goal.loop-i-preserved
 loop-i-preserved c =
     let class = c.record_class-class.ensures in
-    let inv = c.loop-i.invariant.1 in
-    (omega arith, elim c.if-class-best.branch [
-      then-class-best w ↦ rw (w.best-is, class) (best_new 4 _ _ _ _ inv (omega (arith, w.if-class-best.true, class)))
-    | else-class-best w ↦ rw w.best-is (best_kept 4 _ _ _ _ inv (omega (arith, w.if-class-best.false, class)))
-    ], elim c.if-class-best.branch [
-      then-class-best w ↦ rw w.best-is (omega arith)
-    | else-class-best w ↦ rw w.best-is (omega arith)
-    ])
+    let inv = c.loop-i.invariant.1 in (
+      omega arith,
+      elim c.if-class-best.branch [
+        | then-class-best w ↦ rw (w.best-is, class) (best_new 4 _ _ _ _ inv (omega (arith, w.if-class-best.true, class)))
+        | else-class-best w ↦ rw w.best-is (best_kept 4 _ _ _ _ inv (omega (arith, w.if-class-best.false, class)))
+      ],
+      elim c.if-class-best.branch [
+        | then-class-best w ↦ rw w.best-is (omega arith)
+        | else-class-best w ↦ rw w.best-is (omega arith)
+      ],
+    )
 
 pub returns : goal.returns
 unfolding best_class best_record

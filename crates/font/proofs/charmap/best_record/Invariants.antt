@@ -1,11 +1,6 @@
 use Prim.Native.Nat.{◌≤◌, ◌-◌}
-use mathlib.Core.Path.{◌≡◌}
-use borrow.Author.Rules.{rules}
-use native.Mathlib.Omega.{arith}
-use Rattle.font.specs.Charmap.{record_class, best_class, best_record}
-use Rattle.font.proofs.Least.{Best, best_start, best_new, best_kept, best_done}
-use Rattle.font.proofs.Records.{best_before}
-use mathlib.Core.Logic.{⊎_elim}
+use Rattle.font.specs.Charmap.{record_class}
+use Rattle.font.proofs.Least.{Best}
 use Rattle.font.proofs.charmap.best_record.Given as goal
 
 abbrev pub invariant-loop-i : goal.invariant-loop-i

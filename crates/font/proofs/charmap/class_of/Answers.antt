@@ -1,7 +1,6 @@
 use native.Mathlib.Omega.{arith}
 use borrow.Author.Tests.{le-leb, lt-leb, ne_eqb}
 use Rattle.font.specs.Charmap.{class_of, is_pair}
-use borrow.Author.Rules.{rules}
 use Rattle.font.proofs.charmap.class_of.Goals as goal
 
 pub returns-then-encoding-lt4 : goal.returns-then-encoding-lt4

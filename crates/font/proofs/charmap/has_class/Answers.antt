@@ -1,7 +1,6 @@
-use mathlib.Core.Path.{◌≡◌, refl, sym, ◌∙◌}
+use mathlib.Core.Path.{refl, sym, ◌∙◌}
 use native.Mathlib.Omega.{arith}
 use Rattle.font.proofs.Records.{low_class, windows_class, high_class, class_3_0, class_3_1, class_3_10}
-use borrow.Author.Rules.{rules}
 use Rattle.font.proofs.charmap.has_class.Goals as goal
 
 pub returns-then-pair-lt7 : goal.returns-then-pair-lt7

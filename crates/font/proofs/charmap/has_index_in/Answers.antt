@@ -1,6 +1,5 @@
 use mathlib.Core.Path.{sym, ◌∙◌}
 use Rattle.font.proofs.Records.{font_has}
-use borrow.Author.Rules.{rules}
 use Rattle.font.proofs.charmap.has_index_in.Goals as goal
 
 pub returns : goal.returns

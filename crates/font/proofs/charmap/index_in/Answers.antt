@@ -5,7 +5,6 @@ use lib.ListN.{length-take, length-drop}
 use Rattle.font.specs.Tables.{part_of}
 use Rattle.font.specs.Charmap.{index_in, charmap_index_of}
 use Rattle.font.proofs.Lookup.{within}
-use borrow.Author.Rules.{rules}
 use Rattle.font.proofs.charmap.index_in.Goals as goal
 
 pub overflow_add-offset : goal.overflow_add-offset

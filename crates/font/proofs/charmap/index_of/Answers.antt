@@ -2,7 +2,6 @@ use mathlib.Core.Path.{sym}
 use borrow.Author.Tests.{lt-ltb, le-ltb}
 use Rattle.font.specs.Charmap.{index_of, subtable_offset_of}
 use Rattle.font.proofs.Records.{best_qualifies}
-use borrow.Author.Rules.{rules}
 use Rattle.font.proofs.charmap.index_of.Goals as goal
 
 pub returns-then-best-lt4 : goal.returns-then-best-lt4

@@ -2,7 +2,6 @@ use mathlib.Core.Path.{sym}
 use borrow.Author.Tests.{le-leb, lt-leb}
 use Rattle.font.specs.Charmap.{record_class, qualifies, lies_in, pair_class, subtable_offset_of}
 use Rattle.font.proofs.Records.{class_in}
-use borrow.Author.Rules.{rules}
 use Rattle.font.proofs.charmap.record_class.Goals as goal
 
 pub returns-then-cmap-offset : goal.returns-then-cmap-offset

@@ -1,8 +1,7 @@
-use mathlib.Core.Path.{sym, ◌∙◌}
+use mathlib.Core.Path.{◌∙◌}
 use native.Mathlib.Omega.{arith}
 use Rattle.font.specs.Charmap.{subtable_offset_of, pair_class}
 use Rattle.font.proofs.Records.{qualifies_in, subtable_past}
-use borrow.Author.Rules.{rules}
 use Rattle.font.proofs.charmap.record_qualifies.Goals as goal
 
 pub returns-then-cmap-offset : goal.returns-then-cmap-offset

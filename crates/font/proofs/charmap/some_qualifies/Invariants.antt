@@ -1,11 +1,6 @@
 use Prim.Native.Nat.{◌≤◌, ◌-◌}
-use mathlib.Core.Path.{◌≡◌, sym, ◌∙◌}
-use native.Mathlib.Omega.{arith}
-use borrow.Author.Rules.{rules}
-use borrow.Author.Tests.{ltb-true, ltb-false}
 use Rattle.font.specs.Charmap.{record_class}
-use Rattle.font.proofs.Least.{Best, best_start, best_kept}
-use Rattle.font.proofs.Records.{best_before, has_class, some_class, no_class, no_records}
+use Rattle.font.proofs.Least.{Best}
 use Rattle.font.proofs.charmap.some_qualifies.Given as goal
 
 abbrev pub invariant-loop-i : goal.invariant-loop-i

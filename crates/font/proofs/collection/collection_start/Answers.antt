@@ -1,6 +1,5 @@
 use native.Mathlib.Omega.{arith}
 use Rattle.font.proofs.Collections.{none, stated, at_offset, offsets_cut}
-use borrow.Author.Rules.{rules}
 use Rattle.font.proofs.collection.collection_start.Goals as goal
 
 pub returns-then-count-file : goal.returns-then-count-file

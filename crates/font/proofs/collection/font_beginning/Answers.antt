@@ -3,7 +3,6 @@ use native.Mathlib.Omega.{arith}
 use borrow.Author.Tests.{eq-eqb, ne_eqb}
 use Rattle.font.specs.Collection.{is_collection}
 use Rattle.font.proofs.Collections.{one, at_first}
-use borrow.Author.Rules.{rules}
 use Rattle.font.proofs.collection.font_beginning.Goals as goal
 
 pub collection_start-start-requires : goal.collection_start-start-requires

@@ -1,6 +1,5 @@
 use mathlib.Core.Path.{sym}
 use Rattle.font.specs.Collection.{font_count}
-use borrow.Author.Rules.{rules}
 use Rattle.font.proofs.collection.font_count.Goals as goal
 
 pub returns-then-is_collection : goal.returns-then-is_collection

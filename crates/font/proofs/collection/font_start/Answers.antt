@@ -1,6 +1,5 @@
 use mathlib.Core.Path.{sym, ◌∙◌}
 use Rattle.font.proofs.Collections.{at_first, no_other}
-use borrow.Author.Rules.{rules}
 use Rattle.font.proofs.collection.font_start.Goals as goal
 
 pub collection_start-requires : goal.collection_start-requires

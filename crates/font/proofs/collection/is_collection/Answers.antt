@@ -1,6 +1,5 @@
 use mathlib.Core.Path.{sym}
 use Rattle.font.specs.Collection.{is_collection}
-use borrow.Author.Rules.{rules}
 use Rattle.font.proofs.collection.is_collection.Goals as goal
 
 pub returns : goal.returns

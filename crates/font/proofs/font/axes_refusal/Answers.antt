@@ -2,7 +2,6 @@ use mathlib.Core.Path.{sym}
 use borrow.Author.Tests.{le-leb, lt-leb}
 use Rattle.font.specs.Font.{fvar_of}
 use Rattle.font.proofs.LookedAt.{few_stated_fvar}
-use borrow.Author.Rules.{rules}
 use Rattle.font.proofs.font.axes_refusal.Goals as goal
 
 pub returns-then-u16_at-le16 : goal.returns-then-u16_at-le16

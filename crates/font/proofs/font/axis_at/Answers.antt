@@ -1,5 +1,4 @@
 use Rattle.font.specs.Font.{axis_at}
-use borrow.Author.Rules.{rules}
 use Rattle.font.proofs.font.axis_at.Goals as goal
 
 pub returns : goal.returns

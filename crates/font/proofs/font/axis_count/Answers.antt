@@ -4,7 +4,6 @@ use native.Mathlib.Omega.{arith}
 use borrow.Author.Tests.{lt-ltb, le-ltb, le-leb, lt-leb, eq-eqb, ne_eqb}
 use Rattle.font.specs.StatedAttributes.{present}
 use Rattle.font.specs.Font.{axis_count_of}
-use borrow.Author.Rules.{rules}
 use Rattle.font.proofs.font.axis_count.Goals as goal
 
 pub returns-then-fvar-eq0 : goal.returns-then-fvar-eq0
@@ -13,8 +12,7 @@ returns-then-fvar-eq0 c = (simp (le-ltb 0 (length c.args.fvar.now) (omega arith)
 
 pub returns-then-offset-count : goal.returns-then-offset-count
 unfolding axis_count_of present
-returns-then-offset-count c =
-    (
+returns-then-offset-count c = (
   simp
       (lt-ltb 0 (length c.args.fvar.now) (omega arith), sym c.u16_at.ensures, eq-eqb _ _ c.if-u16_at-eq20.true, sym c.u16_at-offset.ensures, sym c.u16_at-count.ensures, le-leb _ _ c.if-offset-count.true),
   omega (arith, c.u16_at-count.type_inv),
@@ -22,8 +20,7 @@ returns-then-offset-count c =
 
 pub returns-else-offset-count : goal.returns-else-offset-count
 unfolding axis_count_of present
-returns-else-offset-count c =
-    (
+returns-else-offset-count c = (
   simp
       (lt-ltb 0 (length c.args.fvar.now) (omega arith), sym c.u16_at.ensures, eq-eqb _ _ c.if-u16_at-eq20.true, sym c.u16_at-offset.ensures, sym c.u16_at-count.ensures, lt-leb _ _ c.if-offset-count.false),
   omega arith,

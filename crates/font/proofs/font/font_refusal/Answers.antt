@@ -2,7 +2,6 @@ use mathlib.Core.Path.{sym}
 use borrow.Author.Tests.{le-leb, lt-leb, lt-ltb, le-ltb}
 use Rattle.font.specs.Collection.{header_fits}
 use Rattle.font.specs.Font.{font_refusal}
-use borrow.Author.Rules.{rules}
 use Rattle.font.proofs.font.font_refusal.Goals as goal
 
 pub returns-then-file-lt12 : goal.returns-then-file-lt12

@@ -2,7 +2,6 @@ use mathlib.Core.Path.{sym, ◌∙◌}
 use lib.Ieee.{of_bits, of_int, round}
 use Rattle.font.specs.Single.{single}
 use Rattle.font.specs.StatedAttributes.{from_head}
-use borrow.Author.Rules.{rules}
 use Rattle.font.proofs.font.from_head.Goals as goal
 
 pub returns : goal.returns

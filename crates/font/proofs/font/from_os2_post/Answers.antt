@@ -1,7 +1,6 @@
 use mathlib.Core.Path.{◌∙◌}
 use Rattle.font.specs.Single.{single}
 use Rattle.font.specs.StatedAttributes.{from_os2_post}
-use borrow.Author.Rules.{rules}
 use Rattle.font.proofs.font.from_os2_post.Goals as goal
 
 pub returns : goal.returns

@@ -4,7 +4,6 @@ use lib.Ieee.{of_bits, of_int, round}
 use Rattle.font.specs.Single.{single}
 use Rattle.font.specs.Attributes.{default_attributes}
 use Rattle.font.specs.StatedAttributes.{present, from_tables}
-use borrow.Author.Rules.{rules}
 use Rattle.font.proofs.font.from_tables.Goals as goal
 
 pub returns-then-os2-gt0 : goal.returns-then-os2-gt0

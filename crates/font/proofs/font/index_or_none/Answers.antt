@@ -1,6 +1,5 @@
 use mathlib.Core.Path.{sym, ◌∙◌}
 use Rattle.font.specs.Font.{no_index, index_or}
-use borrow.Author.Rules.{rules}
 use Rattle.font.proofs.font.index_or_none.Goals as goal
 
 pub returns-in-Index : goal.returns-in-Index

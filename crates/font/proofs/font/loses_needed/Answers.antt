@@ -2,7 +2,6 @@ use mathlib.Core.Path.{sym, ◌∙◌}
 use native.Mathlib.Omega.{arith}
 use Rattle.font.proofs.Lookup.{within}
 use Rattle.font.proofs.Needed.{by_post, by_none, by_os2, by_head}
-use borrow.Author.Rules.{rules}
 use Rattle.font.proofs.font.loses_needed.Goals as goal
 
 pub overflow_add-offset : goal.overflow_add-offset

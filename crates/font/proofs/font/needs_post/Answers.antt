@@ -2,7 +2,6 @@ use mathlib.Core.Path.{sym}
 use borrow.Author.Tests.{eq-eqb, ne_eqb}
 use Rattle.font.specs.StatedAttributes.{bit, needs_post}
 use Rattle.font.proofs.Classes.{lowest}
-use borrow.Author.Rules.{rules}
 use Rattle.font.proofs.font.needs_post.Goals as goal
 
 pub returns-then-selection-eq1 : goal.returns-then-selection-eq1

@@ -2,7 +2,6 @@ use mathlib.Core.Path.{sym}
 use borrow.Author.Tests.{eq-eqb, ne_eqb}
 use Rattle.font.specs.StatedAttributes.{os2_style}
 use Rattle.font.proofs.Classes.{lowest, ninth}
-use borrow.Author.Rules.{rules}
 use Rattle.font.proofs.font.os2_style.Goals as goal
 
 pub returns-then-selection-eq1 : goal.returns-then-selection-eq1

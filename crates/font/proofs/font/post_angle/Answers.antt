@@ -1,7 +1,6 @@
 use mathlib.Core.Path.{sym}
 use borrow.Author.Tests.{lt-ltb, le-ltb}
 use Rattle.font.specs.StatedAttributes.{present, post_angle}
-use borrow.Author.Rules.{rules}
 use Rattle.font.proofs.font.post_angle.Goals as goal
 
 pub returns-then-post-gt0 : goal.returns-then-post-gt0

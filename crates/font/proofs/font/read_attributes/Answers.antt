@@ -1,11 +1,9 @@
 use mathlib.Core.Path.{sym, ◌∙◌}
-use borrow.Author.Tests.{not-true, not-false}
 use lib.Ieee.{of_bits, of_int, round}
 use Rattle.font.specs.Single.{single}
 use Rattle.font.specs.Attributes.{default_attributes}
 use Rattle.font.specs.Tables.{find_table, part_of, table_data, hand_out, handed_table, is_damaged}
 use Rattle.font.specs.StatedAttributes.{present, from_tables, needed_damaged, loses_needed, read_attributes}
-use borrow.Author.Rules.{rules}
 use Rattle.font.proofs.font.read_attributes.Goals as goal
 
 pub returns-then-not-is_reading : goal.returns-then-not-is_reading

@@ -1,8 +1,6 @@
-use mathlib.Core.Path.{sym, ◌∙◌}
-use native.Mathlib.Omega.{arith}
+use mathlib.Core.Path.{sym}
 use Rattle.font.specs.Font.{fvar_of, face_of}
 use Rattle.font.proofs.FaceOf.{taken_under, fits_stated, few_read}
-use borrow.Author.Rules.{rules}
 use Rattle.font.proofs.font.read_font.Goals as goal
 
 pub data_in-fvar-requires : goal.data_in-fvar-requires

@@ -1,7 +1,6 @@
 use mathlib.Core.Path.{sym}
 use Rattle.font.specs.Font.{stated_at}
 use Rattle.font.proofs.FaceOf.{taken_under, fits_stated}
-use borrow.Author.Rules.{rules}
 use Rattle.font.proofs.font.read_stated.Goals as goal
 
 pub from_tables-attributes-requires : goal.from_tables-attributes-requires

@@ -1,6 +1,5 @@
 use mathlib.Core.Path.{sym, ◌∙◌}
 use Rattle.font.specs.Font.{refusal_at}
-use borrow.Author.Rules.{rules}
 use Rattle.font.proofs.font.refusal_at.Goals as goal
 
 pub loses_needed-requires : goal.loses_needed-requires

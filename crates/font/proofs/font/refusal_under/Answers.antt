@@ -1,6 +1,5 @@
 use mathlib.Core.Path.{sym}
 use Rattle.font.specs.Font.{refusal_under}
-use borrow.Author.Rules.{rules}
 use Rattle.font.proofs.font.refusal_under.Goals as goal
 
 pub returns-then-is_reading : goal.returns-then-is_reading

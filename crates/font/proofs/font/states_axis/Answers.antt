@@ -1,6 +1,5 @@
 use mathlib.Core.Path.{sym}
 use Rattle.font.specs.Font.{fvar_of, states_axis}
-use borrow.Author.Rules.{rules}
 use Rattle.font.proofs.font.states_axis.Goals as goal
 
 pub returns : goal.returns

@@ -2,7 +2,6 @@ use mathlib.Core.Path.{◌∙◌}
 use lib.Ieee.{of_bits, round}
 use Rattle.font.specs.StatedAttributes.{thousandths, class_widths}
 use Rattle.font.proofs.Classes.{listed, past}
-use borrow.Author.Rules.{rules}
 use Rattle.font.proofs.font.width_from_width_class.Goals as goal
 
 pub returns-then-class-lt9 : goal.returns-then-class-lt9

@@ -1,6 +1,5 @@
 use mathlib.Core.Path.{sym}
 use Rattle.font.specs.Overrides.{accepted_override}
-use borrow.Author.Rules.{rules}
 use Rattle.font.proofs.overrides.attributes_override_accepted.Goals as goal
 
 pub returns-then-style_override_accepted : goal.returns-then-style_override_accepted

@@ -1,11 +1,8 @@
 use Prim.Native.Nat.{◌≤◌, ◌-◌}
-use mathlib.Core.Path.{◌≡◌, sym, ◌∙◌}
+use mathlib.Core.Path.{◌≡◌}
 use mathlib.Core.Bool.{true}
-use borrow.Author.Rules.{rules}
-use native.Mathlib.Omega.{arith}
 use Rattle.font.specs.Overrides.{accepted_axis, axis_of}
 use Rattle.font.specs.First.{every}
-use Rattle.font.proofs.First.{every_start, every_more, every_fails}
 use Rattle.font.proofs.overrides.axes_accepted.Given as goal
 
 abbrev pub invariant-loop-k : goal.invariant-loop-k

@@ -1,6 +1,5 @@
 use mathlib.Core.Path.{sym}
 use Rattle.font.specs.Overrides.{accepted_axis}
-use borrow.Author.Rules.{rules}
 use Rattle.font.proofs.overrides.axis_accepted.Goals as goal
 
 pub returns-then-is_finite-2 : goal.returns-then-is_finite-2

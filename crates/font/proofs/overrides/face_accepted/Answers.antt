@@ -1,6 +1,5 @@
 use mathlib.Core.Path.{sym}
 use Rattle.font.specs.Overrides.{accepted_face}
-use borrow.Author.Rules.{rules}
 use Rattle.font.proofs.overrides.face_accepted.Goals as goal
 
 pub returns-then-accepted : goal.returns-then-accepted

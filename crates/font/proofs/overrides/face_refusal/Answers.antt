@@ -1,5 +1,4 @@
 use Rattle.font.specs.Overrides.{face_refusal}
-use borrow.Author.Rules.{rules}
 use Rattle.font.proofs.overrides.face_refusal.Goals as goal
 
 pub returns : goal.returns

@@ -1,11 +1,8 @@
 use Prim.Native.Nat.{◌-◌}
-use mathlib.Core.Path.{◌≡◌, sym}
+use mathlib.Core.Path.{◌≡◌}
 use lib.Dec.{eqb}
-use borrow.Author.Tests.{eq-eqb, ne_eqb}
-use native.Mathlib.Omega.{arith}
 use Rattle.font.specs.First.{first}
-use Rattle.font.specs.Overrides.{axis_of, first_axis}
-use Rattle.font.proofs.First.{none_start, none_more, none_of_fewer, found}
+use Rattle.font.specs.Overrides.{axis_of}
 use Rattle.font.proofs.overrides.first_axis.Given as goal
 
 abbrev pub invariant-loop-i : goal.invariant-loop-i

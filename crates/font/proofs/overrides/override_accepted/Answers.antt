@@ -1,6 +1,5 @@
 use mathlib.Core.Path.{sym}
 use Rattle.font.specs.Overrides.{accepted_pairs, pair_count}
-use borrow.Author.Rules.{rules}
 use Rattle.font.proofs.overrides.override_accepted.Goals as goal
 
 pub returns-then-attributes_override_accepted : goal.returns-then-attributes_override_accepted

@@ -1,6 +1,5 @@
 use mathlib.Core.Path.{◌∙◌}
 use Rattle.font.specs.Overrides.{overridden}
-use borrow.Author.Rules.{rules}
 use Rattle.font.proofs.overrides.override_attributes.Goals as goal
 
 pub returns : goal.returns

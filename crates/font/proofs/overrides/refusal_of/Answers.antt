@@ -1,7 +1,6 @@
 use mathlib.Core.Path.{sym}
 use borrow.Author.Tests.{le-leb, lt-leb}
 use Rattle.font.specs.Overrides.{refusal_of}
-use borrow.Author.Rules.{rules}
 use Rattle.font.proofs.overrides.refusal_of.Goals as goal
 
 pub returns-then-font-gt16 : goal.returns-then-font-gt16

@@ -1,6 +1,5 @@
 use mathlib.Core.Path.{◌∙◌}
 use Rattle.font.specs.Overrides.{replaced_defaults}
-use borrow.Author.Rules.{rules}
 use Rattle.font.proofs.overrides.replaced_defaults.Goals as goal
 
 pub returns : goal.returns

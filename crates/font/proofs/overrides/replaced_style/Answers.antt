@@ -1,5 +1,4 @@
 use Rattle.font.specs.Overrides.{is_normal}
-use borrow.Author.Rules.{rules}
 use Rattle.font.proofs.overrides.replaced_style.Goals as goal
 
 pub returns-in-Normal : goal.returns-in-Normal

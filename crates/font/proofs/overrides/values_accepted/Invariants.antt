@@ -1,13 +1,10 @@
 use Prim.Native.Nat.{◌≤◌, ◌-◌}
-use mathlib.Core.Path.{◌≡◌, sym, ◌∙◌}
+use mathlib.Core.Path.{◌≡◌}
 use mathlib.Core.Bool.{true}
-use borrow.Author.Rules.{rules}
-use native.Mathlib.Omega.{arith}
 use lib.ListN.{get_or}
 use lib.Ieee.{nan}
 use lib.Ieee.Scale.{finite}
 use Rattle.font.specs.First.{every}
-use Rattle.font.proofs.First.{every_start, every_more, every_fails}
 use Rattle.font.proofs.overrides.values_accepted.Given as goal
 
 abbrev pub invariant-loop-k : goal.invariant-loop-k

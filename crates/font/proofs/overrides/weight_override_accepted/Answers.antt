@@ -1,6 +1,5 @@
 use Rattle.font.specs.Overrides.{accepted_weight_override}
 use mathlib.Core.Path.{◌∙◌}
-use borrow.Author.Rules.{rules}
 use Rattle.font.proofs.overrides.weight_override_accepted.Goals as goal
 
 pub returns-in-Set : goal.returns-in-Set

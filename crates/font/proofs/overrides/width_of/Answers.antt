@@ -1,5 +1,4 @@
 use Rattle.font.specs.Overrides.{ratio_of}
-use borrow.Author.Rules.{rules}
 use Rattle.font.proofs.overrides.width_of.Goals as goal
 
 pub returns-in-Set : goal.returns-in-Set

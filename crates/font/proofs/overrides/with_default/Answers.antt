@@ -1,5 +1,4 @@
 use mathlib.Core.Path.{sym}
-use borrow.Author.Rules.{rules}
 use borrow.Author.Tests.{lt-ltb, le-ltb}
 use Rattle.font.specs.Overrides.{with_axes, set_default, axis_of, with_default}
 use Rattle.font.proofs.overrides.with_default.Goals as goal

@@ -1,9 +1,6 @@
 use Prim.Native.Nat.{◌≤◌, ◌-◌}
-use mathlib.Core.Path.{◌≡◌, refl, sym, ◌∙◌, ap}
-use borrow.Author.Rules.{rules}
-use native.Mathlib.Omega.{arith}
-use Rattle.font.specs.Overrides.{pair_count, with_defaults}
-use Rattle.font.proofs.Defaults.{no_pairs, one_more_pair, same_count}
+use mathlib.Core.Path.{◌≡◌}
+use Rattle.font.specs.Overrides.{with_defaults}
 use Rattle.font.proofs.overrides.with_defaults.Given as goal
 
 abbrev pub invariant-loop-k : goal.invariant-loop-k

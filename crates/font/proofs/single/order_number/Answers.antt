@@ -5,7 +5,6 @@ use lib.Dec.{T}
 use lib.Ieee.{binary32, to_bits}
 use lib.Ieee.Bits.{to_bits-lt}
 use lib.Ieee.Compare.{differs_from_itself}
-use borrow.Author.Rules.{rules}
 use Rattle.font.specs.Single.{order_key}
 use Rattle.font.proofs.Nan.{no_nan}
 use Rattle.font.proofs.OrderKey.{key_of_nan, key_low, key_high}

@@ -3,7 +3,6 @@ use mathlib.Core.Bool.{false}
 use lib.Dec.{T}
 use lib.Ieee.{Float, ne, binary32, to_bits}
 use lib.Ieee.Compare.{differs_from_itself}
-use borrow.Author.Rules.{rules}
 use Prim.Native.Nat.{◌%◌, ◌^◌}
 use Rattle.font.specs.Single.{whole_of}
 use Rattle.font.proofs.Nan.{no_nan}

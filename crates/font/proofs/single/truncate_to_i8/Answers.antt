@@ -8,7 +8,6 @@ use lib.Ieee.{of_bits}
 use mir.Syntax.{w8}
 use mir.Val.{SFits, to_z, of_z}
 use mir.Facts.{to_z_pos, to_z-of_z}
-use borrow.Author.Rules.{rules}
 use Rattle.font.proofs.Casts.{signed_below, signed_else}
 use Rattle.font.proofs.single.truncate_to_i8.Goals as goal
 

@@ -1,6 +1,5 @@
 use mathlib.Core.Path.{◌≡◌, refl, sym, ◌∙◌}
 use lib.Ieee.{Float, binary32, mul, to_unsigned, of_bits, of_int}
-use borrow.Author.Rules.{rules}
 use Rattle.font.specs.Single.{single, whole_percent}
 use Rattle.font.proofs.Casts.{unsigned_below, unsigned_else}
 use Rattle.font.proofs.single.whole_percent.Goals as goal

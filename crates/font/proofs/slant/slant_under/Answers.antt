@@ -1,7 +1,6 @@
 use mathlib.Core.Path.{sym}
 use borrow.Author.Tests.{eq-eqb, ne_eqb}
 use Rattle.font.specs.Slant.{slant_under}
-use borrow.Author.Rules.{rules}
 use Rattle.font.proofs.slant.slant_under.Goals as goal
 
 pub returns-then-reading-eq1 : goal.returns-then-reading-eq1

@@ -1,7 +1,6 @@
 use mathlib.Core.Path.{sym, ◌∙◌}
 use native.Mathlib.Omega.{arith}
 use Rattle.font.proofs.Lookup.{within, found_part, absent_part, damaged_part}
-use borrow.Author.Rules.{rules}
 use Rattle.font.proofs.tables.data_in.Goals as goal
 
 pub overflow_add-result : goal.overflow_add-result

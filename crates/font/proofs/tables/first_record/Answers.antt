@@ -1,14 +1,10 @@
-use Prim.Native.Nat.{◌-◌}
-use mathlib.Core.Path.{◌≡◌, sym, ap, ◌∙◌}
-use lib.Dec.{eqb}
+use mathlib.Core.Path.{sym, ap, ◌∙◌}
 use borrow.Author.Tests.{eq-eqb, ne_eqb}
 use native.Mathlib.Omega.{arith}
-use Rattle.font.specs.First.{first}
 use Rattle.font.specs.Tables.{first_record, record_tag, record_count, swap_bytes}
 use Rattle.font.proofs.First.{none_start, none_more, none_of_fewer, found}
 use Rattle.font.proofs.Fields.{swapped_apart}
 use Rattle.font.proofs.Lookup.{records_inside}
-use borrow.Author.Rules.{rules}
 use Rattle.font.proofs.tables.first_record.Goals as goal
 
 pub overflow_add-start : goal.overflow_add-start

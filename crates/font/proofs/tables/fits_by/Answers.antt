@@ -1,7 +1,6 @@
 use mathlib.Core.Path.{sym, ◌∙◌}
 use native.Mathlib.Omega.{arith}
 use Rattle.font.proofs.Lookup.{past_file, fits_as, fits_not}
-use borrow.Author.Rules.{rules}
 use Rattle.font.proofs.tables.fits_by.Goals as goal
 
 pub returns-then-file-lt12 : goal.returns-then-file-lt12

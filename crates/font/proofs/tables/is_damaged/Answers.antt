@@ -1,6 +1,5 @@
 use mathlib.Core.Path.{sym, ◌∙◌}
 use Rattle.font.specs.Tables.{handed_table, hand_out, is_damaged}
-use borrow.Author.Rules.{rules}
 use Rattle.font.proofs.tables.is_damaged.Goals as goal
 
 pub returns-in-Found : goal.returns-in-Found

@@ -1,6 +1,5 @@
 use mathlib.Core.Path.{refl}
 use Rattle.font.specs.Tables.{swap_pair, swap_bytes}
-use borrow.Author.Rules.{rules}
 use Rattle.font.proofs.tables.swap_bytes.Goals as goal
 
 pub returns : goal.returns

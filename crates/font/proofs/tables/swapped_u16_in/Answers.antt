@@ -3,7 +3,6 @@ use mathlib.Core.Path.{ap, ◌∙◌}
 use native.Mathlib.Omega.{arith}
 use Rattle.font.specs.Tables.{swap_pair}
 use Rattle.font.proofs.Fields.{in16, swapped_pair}
-use borrow.Author.Rules.{rules}
 use Rattle.font.proofs.tables.swapped_u16_in.Goals as goal
 
 pub overflow_cast-result : goal.overflow_cast-result

@@ -2,7 +2,6 @@ use mathlib.Core.Path.{ap, ◌∙◌}
 use native.Mathlib.Omega.{arith}
 use Rattle.font.specs.Tables.{swap_bytes}
 use Rattle.font.proofs.Fields.{in32, swapped_halves}
-use borrow.Author.Rules.{rules}
 use Rattle.font.proofs.tables.swapped_u32_in.Goals as goal
 
 pub returns : goal.returns

@@ -3,7 +3,6 @@ use native.Mathlib.Omega.{arith}
 use borrow.Author.Tests.{lt-ltb, le-ltb}
 use Rattle.font.specs.Tables.{find_table, record_count}
 use Rattle.font.proofs.Lookup.{records_inside}
-use borrow.Author.Rules.{rules}
 use Rattle.font.proofs.tables.table_in.Goals as goal
 
 pub overflow_add-start : goal.overflow_add-start

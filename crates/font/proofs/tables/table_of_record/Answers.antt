@@ -1,7 +1,6 @@
 use mathlib.Core.Path.{sym}
 use borrow.Author.Tests.{le-leb, lt-leb}
 use Rattle.font.specs.Tables.{table_of_record, record_offset, record_length}
-use borrow.Author.Rules.{rules}
 use Rattle.font.proofs.tables.table_of_record.Goals as goal
 
 pub returns-then-length-least : goal.returns-then-length-least

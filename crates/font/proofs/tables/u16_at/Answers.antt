@@ -1,5 +1,4 @@
 use native.Mathlib.Omega.{arith}
-use borrow.Author.Rules.{rules}
 use Rattle.font.proofs.Fields.{out16}
 use Rattle.font.proofs.tables.u16_at.Goals as goal
 

@@ -1,6 +1,5 @@
 use Prim.Native.Nat.{◌+◌}
 use native.Mathlib.Omega.{arith}
-use borrow.Author.Rules.{rules}
 use Rattle.font.proofs.Fields.{in16}
 use Rattle.font.proofs.tables.u16_in.Goals as goal
 

@@ -1,5 +1,4 @@
 use native.Mathlib.Omega.{arith}
-use borrow.Author.Rules.{rules}
 use Rattle.font.proofs.Fields.{out32}
 use Rattle.font.proofs.tables.u32_at.Goals as goal
 

@@ -1,5 +1,4 @@
 use native.Mathlib.Omega.{arith}
-use borrow.Author.Rules.{rules}
 use Rattle.font.proofs.Fields.{in32}
 use Rattle.font.proofs.tables.u32_in.Goals as goal
 

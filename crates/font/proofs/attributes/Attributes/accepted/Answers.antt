@@ -1,6 +1,5 @@
 use mathlib.Core.Path.{sym}
 use Rattle.font.specs.Attributes.{accepted_attributes}
-use borrow.Author.Rules.{rules}
 use Rattle.font.proofs.attributes.Attributes.accepted.Goals as goal
 
 pub returns-then-style_accepted : goal.returns-then-style_accepted

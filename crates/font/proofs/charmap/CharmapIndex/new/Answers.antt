@@ -1,7 +1,6 @@
 use mathlib.Core.Path.{sym, ◌∙◌}
 use Rattle.font.specs.Tables.{find_table}
 use Rattle.font.specs.Charmap.{charmap_index_of, index_in}
-use borrow.Author.Rules.{rules}
 use Rattle.font.proofs.charmap.CharmapIndex.new.Goals as goal
 
 pub index_in-requires : goal.index_in-requires

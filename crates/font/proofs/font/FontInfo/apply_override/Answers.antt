@@ -2,7 +2,6 @@ use mathlib.Core.Path.{sym, ◌∙◌}
 use borrow.Author.Tests.{eq-eqb, ne_eqb}
 use Rattle.font.specs.Overrides.{apply_override, answered, with_axes, with_defaults, with_override}
 use Rattle.font.proofs.Refusals.{within_limit}
-use borrow.Author.Rules.{rules}
 use Rattle.font.proofs.font.FontInfo.apply_override.Goals as goal
 
 pub with_defaults-paired-requires : goal.with_defaults-paired-requires

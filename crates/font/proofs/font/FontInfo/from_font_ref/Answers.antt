@@ -5,7 +5,6 @@ use Rattle.font.specs.Single.{single}
 use Rattle.font.specs.First.{tabulate}
 use Rattle.font.specs.Attributes.{default_attributes}
 use Rattle.font.specs.Font.{no_axis, no_index, empty_font, checked_by, from_font_ref}
-use borrow.Author.Rules.{rules}
 use Rattle.font.proofs.font.FontInfo.from_font_ref.Goals as goal
 
 pub read_font-font-requires : goal.read_font-font-requires

@@ -1,7 +1,6 @@
 use mathlib.Core.Path.{sym}
 use borrow.Author.Tests.{eq-eqb, ne_eqb}
 use Rattle.font.specs.Overrides.{maybe_override_attributes, answered, with_attributes}
-use borrow.Author.Rules.{rules}
 use Rattle.font.proofs.font.FontInfo.maybe_override_attributes.Goals as goal
 
 pub returns-then-refusal-eq0 : goal.returns-then-refusal-eq0
