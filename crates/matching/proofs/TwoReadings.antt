@@ -1,21 +1,19 @@
 -- The two readings of a synthesis (`specs/TwoReadings.antt`).
 use Prim.Native.Nat.{ℕ}
-use mathlib.Core.Path.{◌≡◌, refl, sym, ap, ◌∙◌}
+use mathlib.Core.Path.{◌≡◌, refl}
 use mathlib.Core.Bool.{Bool, true, false, not, ◌&&◌, cond}
-use lib.Dec.{ltb, eqb}
-use lib.IntN.{ℤ, pos, negsuc}
+use lib.Dec.{eqb}
+use lib.IntN.{pos, negsuc}
 use lib.Ieee.{Float, binary32, of_int, round, add, sum, mul, lt, eq, le, neg, to_bits, is_nan, to_signed}
 use Rattle.font.specs.First.{first, every}
 use Rattle.font.specs.Single.{single, order_key, key_of_bits, accepted_ratio}
 use Rattle.font.specs.Attributes.{accepted_angle, accepted_style, accepted_attributes}
 use Rattle.font.specs.Slant.{is_reading, opposite, slant_under}
 use Rattle.font.specs.Overrides.{axis_of, accepted_axis, accepted_face, refusal_of, face_refusal}
-use Rattle.font.specs.declared.attributes.Angle.{Angle}
 use Rattle.font.specs.declared.attributes.FontStyle.{FontStyle}
 use Rattle.font.specs.declared.attributes.FontStyle.TheVariants.{Normal, Italic, Oblique}
 use Rattle.font.specs.declared.attributes.Attributes.{Attributes}
 use Rattle.font.specs.declared.font.FontInfo.{FontInfo}
-use Rattle.matching.specs.declared.synthesis.Setting.{Setting}
 use Rattle.matching.specs.declared.synthesis.Setting.TheVariants.{Unset, Set}
 use Rattle.matching.specs.declared.synthesis.Lean.{Lean}
 use Rattle.matching.specs.declared.synthesis.Lean.TheVariants.{Upright, Varied, Skewed}

@@ -1,6 +1,6 @@
 -- What the two readings make of a synthesis: reading 0 is section 5 as it stands without a reading, and reading 1 has the value of `slnt` negated and nothing else
 -- another. Proved in proofs/TwoReadings.antt.
-use Rattle.std.specs.Prelude.{ℕ, ◌≡◌, Bool, true, false, cond, List, [], ◌∷◌, eqb, pos, negsuc, Float}
+use Rattle.std.specs.Prelude.{ℕ, ◌≡◌, Bool, false, cond, [], ◌∷◌, eqb, pos, negsuc, Float}
 use Rattle.std.specs.Float.Ieee.{neg, to_signed}
 use Rattle.font.specs.Single.{single}
 use Rattle.font.specs.Attributes.{attributes_of, accepted_attributes}

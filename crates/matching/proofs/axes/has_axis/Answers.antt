@@ -1,5 +1,4 @@
 use Rattle.matching.specs.Matching.{has_axis}
-use borrow.Author.Rules.{rules}
 use Rattle.matching.proofs.axes.has_axis.Goals as goal
 
 pub returns : goal.returns

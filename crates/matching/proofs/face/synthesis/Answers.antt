@@ -14,7 +14,6 @@ use Rattle.font.specs.Overrides.{face_refusal}
 use Rattle.matching.specs.declared.synthesis.Varies.{Varies}
 use Rattle.matching.specs.Matching.{attributes_from}
 use Rattle.matching.specs.Synthesis.{unvaried, synthesized, synthesis_refusal, synthesis_of}
-use borrow.Author.Rules.{rules}
 use Rattle.matching.proofs.face.synthesis.Goals as goal
 
 skipped : (a : Synthesis) {b : Synthesis} (r : ℕ) → (r ≡ 0 → ⊥) → cond (eqb r 0) a b ≡ b

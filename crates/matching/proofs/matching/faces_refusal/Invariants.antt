@@ -1,9 +1,6 @@
 use Prim.Native.Nat.{◌-◌, ◌≤◌}
-use mathlib.Core.Path.{◌≡◌, sym, ◌∙◌, ap}
-use native.Mathlib.Omega.{arith}
-use Rattle.matching.specs.Rows.{either_refusal}
-use Rattle.matching.proofs.Taken.{refusal_below, refusal_none, refusal_more, refusal_all, faces_over}
-use borrow.Author.Rules.{rules}
+use mathlib.Core.Path.{◌≡◌}
+use Rattle.matching.proofs.Taken.{refusal_below}
 use Rattle.matching.proofs.matching.faces_refusal.Given as goal
 
 abbrev pub invariant-loop-i : goal.invariant-loop-i

@@ -1,12 +1,5 @@
 use Prim.Native.Nat.{◌-◌, ◌≤◌}
-use mathlib.Core.Path.{refl, sym, ◌∙◌, ap}
-use native.Mathlib.Omega.{arith}
-use Rattle.matching.specs.declared.matching.Choice.TheVariants.{Place, Nothing, Refused}
-use Rattle.matching.specs.Order.{choice}
-use Rattle.matching.specs.Matching.{family_of, attributes_from}
-use Rattle.matching.proofs.Matched.{refused, found, nothing, answer}
-use Rattle.matching.proofs.Taken.{Taken, taken_none, taken_more, taken_all, family_over, family_refuses}
-use borrow.Author.Rules.{rules}
+use Rattle.matching.proofs.Taken.{Taken}
 use Rattle.matching.proofs.matching.match_font.Given as goal
 
 abbrev pub invariant-loop-i : goal.invariant-loop-i

@@ -1,11 +1,5 @@
 use Prim.Native.Nat.{◌-◌, ◌≤◌}
-use mathlib.Core.Path.{refl, sym, ◌∙◌, ap}
-use native.Mathlib.Omega.{arith}
-use Rattle.matching.specs.Order.{choice, laid_out}
-use Rattle.matching.specs.Matching.{family_of, attributes_from, equal_list}
-use Rattle.matching.proofs.Matched.{refused, listed}
-use Rattle.matching.proofs.Taken.{Taken, taken_none, taken_more, taken_all, family_over, family_refuses}
-use borrow.Author.Rules.{rules}
+use Rattle.matching.proofs.Taken.{Taken}
 use Rattle.matching.proofs.matching.match_fonts.Given as goal
 
 abbrev pub invariant-loop-i : goal.invariant-loop-i

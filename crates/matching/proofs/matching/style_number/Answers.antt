@@ -2,7 +2,6 @@ use Rattle.font.specs.declared.attributes.Angle.{Angle}
 use Rattle.font.specs.declared.attributes.FontStyle.TheVariants.{Oblique}
 use mathlib.Core.Path.{sym, ap, ◌∙◌}
 use Rattle.matching.specs.Matching.{style_number}
-use borrow.Author.Rules.{rules}
 use Rattle.matching.proofs.matching.style_number.Goals as goal
 
 pub returns-in-Normal : goal.returns-in-Normal

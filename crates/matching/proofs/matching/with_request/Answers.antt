@@ -1,6 +1,5 @@
 use mathlib.Core.Path.{sym, ◌∙◌}
 use borrow.Author.Tests.{eq-eqb, ne_eqb}
-use borrow.Author.Rules.{rules}
 use Rattle.matching.proofs.matching.with_request.Goals as goal
 
 pub returns-then-faces-ne0 : goal.returns-then-faces-ne0

@@ -1,7 +1,6 @@
 use borrow.Author.Tests.{lt-ltb, le-ltb, le-leb, lt-leb}
 use Rattle.matching.proofs.Numbers.{zero_angle_lem, fourteen_is}
 use Rattle.matching.specs.Order.{italic_standing, oblique}
-use borrow.Author.Rules.{rules}
 use Rattle.matching.proofs.order.italic_standing.Goals as goal
 
 pub returns-then-style-lt2 : goal.returns-then-style-lt2

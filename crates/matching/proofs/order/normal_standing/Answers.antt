@@ -1,7 +1,6 @@
 use borrow.Author.Tests.{le-leb, lt-leb, eq-eqb, ne_eqb}
 use Rattle.matching.proofs.Numbers.{zero_angle_lem}
 use Rattle.matching.specs.Order.{normal_standing}
-use borrow.Author.Rules.{rules}
 use Rattle.matching.proofs.order.normal_standing.Goals as goal
 
 pub returns-then-style-eq1 : goal.returns-then-style-eq1

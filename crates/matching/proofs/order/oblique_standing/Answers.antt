@@ -2,8 +2,6 @@ use borrow.Author.Tests.{lt-ltb, le-ltb, le-leb, lt-leb}
 use Rattle.matching.proofs.Numbers.{zero_angle_lem, fourteen_is, minus_fourteen_lem}
 use Rattle.matching.specs.Order.{side_standing, right_standing, left_standing, oblique_standing, oblique}
 use Rattle.matching.proofs.Standings.{alike}
-use mathlib.Core.Logic.{⊎_elim}
-use borrow.Author.Rules.{rules}
 use Rattle.matching.proofs.order.oblique_standing.Goals as goal
 use Rattle.matching.proofs.order.oblique_standing.Goals.{else-wanted-ge-ZERO_ANGLE+else-lean-wanted+else-lean-lt-ZERO_ANGLE, then-wanted-ge-ZERO_ANGLE+else-wanted-lean+else-lean-gt-ZERO_ANGLE}
 
@@ -31,6 +29,6 @@ pub returns : goal.returns
 unfolding oblique_standing right_standing left_standing side_standing oblique
 returns c =
     elim c.if-wanted-ge-ZERO_ANGLE.branch [
-      then-wanted-ge-ZERO_ANGLE+else-wanted-lean+else-lean-gt-ZERO_ANGLE h ↦ simp (zero_angle_lem, c.other_standing-2.ensures, ← c.angle_of-lean.ensures, le-leb _ _ c.if-style-lt2.false, le-leb _ _ h.if-wanted-ge-ZERO_ANGLE.true, lt-leb _ _ h.if-wanted-lean.false, le-ltb _ _ h.if-lean-gt-ZERO_ANGLE.false)
-    | else-wanted-ge-ZERO_ANGLE+else-lean-wanted+else-lean-lt-ZERO_ANGLE h ↦ simp (zero_angle_lem, c.other_standing-2.ensures, ← c.angle_of-lean.ensures, le-leb _ _ c.if-style-lt2.false, lt-leb _ _ h.if-wanted-ge-ZERO_ANGLE.false, lt-leb _ _ h.if-lean-wanted.false, le-ltb _ _ h.if-lean-lt-ZERO_ANGLE.false)
+      | then-wanted-ge-ZERO_ANGLE+else-wanted-lean+else-lean-gt-ZERO_ANGLE h ↦ simp (zero_angle_lem, c.other_standing-2.ensures, ← c.angle_of-lean.ensures, le-leb _ _ c.if-style-lt2.false, le-leb _ _ h.if-wanted-ge-ZERO_ANGLE.true, lt-leb _ _ h.if-wanted-lean.false, le-ltb _ _ h.if-lean-gt-ZERO_ANGLE.false)
+      | else-wanted-ge-ZERO_ANGLE+else-lean-wanted+else-lean-lt-ZERO_ANGLE h ↦ simp (zero_angle_lem, c.other_standing-2.ensures, ← c.angle_of-lean.ensures, le-leb _ _ c.if-style-lt2.false, lt-leb _ _ h.if-wanted-ge-ZERO_ANGLE.false, lt-leb _ _ h.if-lean-wanted.false, le-ltb _ _ h.if-lean-lt-ZERO_ANGLE.false)
     ]

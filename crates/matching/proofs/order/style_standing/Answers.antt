@@ -1,6 +1,5 @@
 use borrow.Author.Tests.{eq-eqb, ne_eqb}
 use Rattle.matching.specs.Order.{style_standing}
-use borrow.Author.Rules.{rules}
 use Rattle.matching.proofs.order.style_standing.Goals as goal
 
 pub returns-then-style-wanted : goal.returns-then-style-wanted

@@ -1,7 +1,6 @@
 use mathlib.Core.Path.{sym, ap}
 use Rattle.matching.specs.declared.rank.Standing.{Standing}
 use Rattle.matching.specs.Packed.{packed}
-use borrow.Author.Rules.{rules}
 use Rattle.matching.proofs.rank.pack.Goals as goal
 
 pub returns-in-Up : goal.returns-in-Up

@@ -1,6 +1,5 @@
 use borrow.Author.Tests.{eq-eqb, ne_eqb}
 use Rattle.matching.specs.Packed.{place_of}
-use borrow.Author.Rules.{rules}
 use Rattle.matching.proofs.rank.place_of.Goals as goal
 
 pub returns-then-rank-eq0 : goal.returns-then-rank-eq0

@@ -2,7 +2,6 @@ use mathlib.Core.Path.{sym, ◌∙◌, ap}
 use mathlib.Core.Bool.{Bool, cond}
 use Rattle.matching.specs.Matching.{slnt}
 use Rattle.matching.specs.Rows.{row_of, face_row}
-use borrow.Author.Rules.{rules}
 use Rattle.matching.proofs.rows.face_row.Goals as goal
 
 pub returns-then-has_axis : goal.returns-then-has_axis

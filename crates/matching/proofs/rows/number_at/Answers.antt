@@ -1,11 +1,10 @@
-use Prim.Native.Nat.{◌+◌, ◌*◌}
+use Prim.Native.Nat.{◌*◌}
 use mathlib.Core.Path.{sym, ◌∙◌}
 use native.Mathlib.Omega.{arith}
 use lib.ListN.{length}
 use borrow.Author.Tests.{eq-eqb, ne_eqb}
 use Rattle.font.proofs.Fields.{in16}
 use Rattle.matching.specs.Rows.{number_at}
-use borrow.Author.Rules.{rules}
 use Rattle.matching.proofs.rows.number_at.Goals as goal
 
 pub returns-then-members-eq0 : goal.returns-then-members-eq0
@@ -15,20 +14,8 @@ returns-then-members-eq0 c = (sym (rw (eq-eqb _ 0 c.if-members-eq0.true)), omega
 pub bounds-members-place : goal.bounds-members-place
 bounds-members-place c = omega (arith, c.requires.1 c.if-members-eq0.false)
 
-pub overflow_cast-result : goal.overflow_cast-result
-overflow_cast-result c = omega (arith, c.shared_slice_known-1.given (2 * c.args.place))
-
-pub overflow_mul-result-2 : goal.overflow_mul-result-2
-overflow_mul-result-2 c = omega (arith, c.shared_slice_known-1.given (2 * c.args.place))
-
 pub bounds-members-place-2 : goal.bounds-members-place-2
 bounds-members-place-2 c = omega (arith, c.requires.1 c.if-members-eq0.false)
-
-pub overflow_cast-result-2 : goal.overflow_cast-result-2
-overflow_cast-result-2 c = omega (arith, c.shared_slice_known-2-1.given (2 * c.args.place + 1))
-
-pub overflow_add-result-2 : goal.overflow_add-result-2
-overflow_add-result-2 c = let i = 2 * c.args.place in omega (arith, c.shared_slice_known-2-1.given i, c.shared_slice_known-2-1.given (i + 1))
 
 pub returns : goal.returns
 unfolding number_at
@@ -37,5 +24,5 @@ returns c =
     let i = 2 * a.place in
     let s = a.members.now in (
       in16 s i (omega (arith, c.requires.1 c.if-members-eq0.false)) ∙ sym (rw (ne_eqb (length s) 0 c.if-members-eq0.false)),
-      omega (arith, c.shared_slice_known-2-1.given i, c.shared_slice_known-2-1.given (i + 1)),
+      omega arith,
     )

@@ -1,5 +1,4 @@
 use Rattle.matching.specs.Rows.{row_of}
-use borrow.Author.Rules.{rules}
 use Rattle.matching.proofs.rows.row.Goals as goal
 
 pub returns : goal.returns

@@ -1,5 +1,4 @@
 use Rattle.matching.specs.Order.{same_face}
-use borrow.Author.Rules.{rules}
 use Rattle.matching.proofs.rows.same_face.Goals as goal
 
 pub returns : goal.returns

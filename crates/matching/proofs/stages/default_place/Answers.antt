@@ -8,7 +8,6 @@ use Rattle.font.specs.Attributes.{default_attributes}
 use Rattle.matching.specs.Order.{choice}
 use Rattle.matching.specs.Matching.{request_of, default_place}
 use Rattle.matching.specs.Rows.{family_of_rows}
-use borrow.Author.Rules.{rules}
 use Rattle.matching.proofs.stages.default_place.Goals as goal
 
 pub returns-then-place-count : goal.returns-then-place-count

@@ -1,17 +1,12 @@
 -- The invariant: the array holds the equal places passed, in order, and zeros after them.
-use Prim.Native.Nat.{ℕ, ◌-◌, ◌≤◌}
+use Prim.Native.Nat.{ℕ}
 use mathlib.Core.Path.{◌≡◌, refl, sym, ◌∙◌, ap}
-use mathlib.Core.Logic.{⊎_elim}
-use mathlib.Core.Bool.{Bool}
-use mathlib.Core.List.{List, []}
 use native.Mathlib.Omega.{arith}
-use lib.ListN.{length, get_or}
 use borrow.Author.Tests.{lt-ltb, le-ltb}
 use Rattle.matching.specs.Below.{places_below}
-use Rattle.matching.specs.Order.{same_face, equal_places, padded, laid_out}
-use Rattle.matching.specs.Rows.{face_of_row, number_at, place_row}
+use Rattle.matching.specs.Order.{equal_places, padded, laid_out}
+use Rattle.matching.specs.Rows.{number_at, place_row}
 use Rattle.matching.proofs.Listed.{grown, kept}
-use borrow.Author.Rules.{rules}
 use Rattle.matching.proofs.stages.equal_places.Invariants.{equal}
 use Rattle.matching.proofs.stages.equal_places.Goals as goal
 use Rattle.matching.proofs.stages.equal_places.Goals.{else-same_face, then-same_face}
@@ -33,8 +28,8 @@ loop-i-preserved c =
     let p = equal a.rows.now a.chosen in
     let same = c.same_face.ensures in
     elim c.if-same_face.branch [
-      then-same_face w ↦ let r = grown p l.i l.places l.found l.invariant.1 l.invariant.2 l.invariant.3 c.if-same_face.places c.if-same_face.found (omega arith) (sym same ∙ w.if-same_face.true) w.places-is w.found-is in (omega arith, r.0, r.1, r.2)
-    | else-same_face w ↦ let r = kept p l.i l.places l.found l.invariant.1 l.invariant.2 l.invariant.3 c.if-same_face.places c.if-same_face.found (sym same ∙ w.if-same_face.false) w.places-is w.found-is in (omega arith, r.0, r.1, r.2)
+      | then-same_face w ↦ let r = grown p l.i l.places l.found l.invariant.1 l.invariant.2 l.invariant.3 c.if-same_face.places c.if-same_face.found (omega arith) (sym same ∙ w.if-same_face.true) w.places-is w.found-is in (omega arith, r.0, r.1, r.2)
+      | else-same_face w ↦ let r = kept p l.i l.places l.found l.invariant.1 l.invariant.2 l.invariant.3 c.if-same_face.places c.if-same_face.found (sym same ∙ w.if-same_face.false) w.places-is w.found-is in (omega arith, r.0, r.1, r.2)
     ]
 
 pub returns : goal.returns

@@ -1,16 +1,11 @@
 use Prim.Native.Nat.{ℕ, ◌-◌, ◌≤◌}
-use mathlib.Core.Path.{◌≡◌, refl, sym, ◌∙◌, ap}
-use mathlib.Core.Logic.{⊎_elim}
+use mathlib.Core.Path.{◌≡◌}
 use mathlib.Core.Bool.{Bool}
 use mathlib.Core.List.{List, []}
-use native.Mathlib.Omega.{arith}
 use lib.ListN.{length, get_or}
-use borrow.Author.Tests.{lt-ltb, le-ltb}
 use Rattle.matching.specs.Below.{places_below}
-use Rattle.matching.specs.Order.{same_face, equal_places, padded, laid_out}
-use Rattle.matching.specs.Rows.{face_of_row, number_at, place_row}
-use Rattle.matching.proofs.Listed.{grown, kept}
-use borrow.Author.Rules.{rules}
+use Rattle.matching.specs.Order.{same_face, padded}
+use Rattle.matching.specs.Rows.{face_of_row}
 use Rattle.matching.proofs.stages.equal_places.Given as goal
 
 abbrev pub equal : List (List ℕ) → ℕ → ℕ → Bool

@@ -1,14 +1,9 @@
 -- The invariant: none of the places passed has the percent and a slant axis.
-use Prim.Native.Nat.{ℕ, ◌-◌, ◌≤◌}
 use mathlib.Core.Path.{◌≡◌, refl, sym, ◌∙◌, ap}
 use mathlib.Core.Bool.{Bool, true, false, ◌&&◌}
-use mathlib.Core.List.{List}
 use native.Mathlib.Omega.{arith}
 use Rattle.matching.specs.Below.{some}
-use Rattle.matching.specs.Packed.{slants}
-use Rattle.matching.specs.Rows.{face_of_row, place_row}
 use Rattle.matching.proofs.Below.{some_at, some_more}
-use borrow.Author.Rules.{rules}
 use Rattle.matching.proofs.stages.slant_at.Invariants.{slanted}
 use Rattle.matching.proofs.stages.slant_at.Goals as goal
 

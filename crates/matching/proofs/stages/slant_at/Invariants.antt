@@ -1,13 +1,10 @@
 use Prim.Native.Nat.{ℕ, ◌-◌, ◌≤◌}
-use mathlib.Core.Path.{◌≡◌, refl, sym, ◌∙◌, ap}
-use mathlib.Core.Bool.{Bool, true, false, ◌&&◌}
+use mathlib.Core.Path.{◌≡◌}
+use mathlib.Core.Bool.{Bool, false}
 use mathlib.Core.List.{List}
-use native.Mathlib.Omega.{arith}
 use Rattle.matching.specs.Below.{some}
 use Rattle.matching.specs.Packed.{slants}
 use Rattle.matching.specs.Rows.{face_of_row, place_row}
-use Rattle.matching.proofs.Below.{some_at, some_more}
-use borrow.Author.Rules.{rules}
 use Rattle.matching.proofs.stages.slant_at.Given as goal
 
 abbrev pub slanted : List (List ℕ) → List ℕ → ℕ → ℕ → Bool

@@ -1,5 +1,4 @@
 use native.Mathlib.Omega.{arith}
-use borrow.Author.Rules.{rules}
 use Rattle.matching.proofs.stages.style_rank.Goals as goal
 
 pub returns-then-width : goal.returns-then-width

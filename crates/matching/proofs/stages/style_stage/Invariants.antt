@@ -1,10 +1,7 @@
 use Prim.Native.Nat.{◌-◌, ◌≤◌}
-use native.Mathlib.Omega.{arith}
 use Rattle.matching.specs.Order.{Face}
 use Rattle.matching.specs.Packed.{style_rank, Scanned}
 use Rattle.matching.specs.Rows.{family_of_rows}
-use Rattle.matching.proofs.Scans.{scan_none, scan_more, scan_all}
-use borrow.Author.Rules.{rules}
 use Rattle.matching.proofs.stages.style_stage.Given as goal
 
 abbrev pub invariant-loop-i : goal.invariant-loop-i

@@ -1,5 +1,4 @@
 use native.Mathlib.Omega.{arith}
-use borrow.Author.Rules.{rules}
 use Rattle.matching.proofs.stages.weight_rank.Goals as goal
 
 pub returns-then-style : goal.returns-then-style

@@ -1,11 +1,6 @@
 -- The invariant: `best` is the least rank of the places passed, and their numbers are of 32 bits. A turn is `scan_more` of proofs/Scans.antt.
-use Prim.Native.Nat.{◌-◌, ◌≤◌}
 use native.Mathlib.Omega.{arith}
-use Rattle.matching.specs.Order.{Face}
-use Rattle.matching.specs.Packed.{weight_rank, Scanned}
-use Rattle.matching.specs.Rows.{family_of_rows}
 use Rattle.matching.proofs.Scans.{scan_none, scan_more, scan_all}
-use borrow.Author.Rules.{rules}
 use Rattle.matching.proofs.stages.weight_stage.Goals as goal
 
 pub loop-i-init : goal.loop-i-init

@@ -1,5 +1,4 @@
 use native.Mathlib.Omega.{arith}
-use borrow.Author.Rules.{rules}
 use Rattle.matching.proofs.stages.width_rank.Goals as goal
 
 pub returns : goal.returns

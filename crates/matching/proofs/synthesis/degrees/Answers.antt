@@ -1,7 +1,6 @@
 use mathlib.Core.Path.{sym, ◌∙◌, ap}
 use Rattle.matching.proofs.Numbers.{single_14}
 use Rattle.matching.specs.Synthesis.{degrees_of}
-use borrow.Author.Rules.{rules}
 use Rattle.matching.proofs.synthesis.degrees.Goals as goal
 
 pub returns-in-Unstated : goal.returns-in-Unstated

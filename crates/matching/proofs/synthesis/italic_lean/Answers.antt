@@ -1,8 +1,6 @@
-use mathlib.Core.Path.{sym}
 use Rattle.matching.proofs.Numbers.{single_1, single_14}
 use Rattle.matching.specs.Matching.{slnt}
 use Rattle.matching.specs.Synthesis.{italic_lean, ital}
-use borrow.Author.Rules.{rules}
 use Rattle.matching.proofs.synthesis.italic_lean.Goals as goal
 
 pub returns-then-varies : goal.returns-then-varies

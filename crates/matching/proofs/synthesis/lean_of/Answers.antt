@@ -1,6 +1,5 @@
 use mathlib.Core.Path.{sym, ◌∙◌, ap}
 use Rattle.matching.specs.Synthesis.{lean_of, oblique_lean}
-use borrow.Author.Rules.{rules}
 use Rattle.matching.proofs.synthesis.lean_of.Goals as goal
 
 pub returns-in-Normal-wanted : goal.returns-in-Normal-wanted

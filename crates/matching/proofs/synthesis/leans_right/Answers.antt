@@ -1,6 +1,5 @@
 use Rattle.matching.proofs.Numbers.{zero_angle_lem}
 use Rattle.matching.specs.Synthesis.{leans_right}
-use borrow.Author.Rules.{rules}
 use Rattle.matching.proofs.synthesis.leans_right.Goals as goal
 
 pub returns-then-varies : goal.returns-then-varies

@@ -5,7 +5,6 @@ use Rattle.matching.specs.declared.synthesis.Lean.TheVariants.{Skewed}
 use Rattle.matching.proofs.Numbers.{single_1}
 use Rattle.matching.specs.Matching.{slnt}
 use Rattle.matching.specs.Synthesis.{oblique_lean, ital}
-use borrow.Author.Rules.{rules}
 use Rattle.matching.proofs.synthesis.oblique_lean.Goals as goal
 
 pub returns-then-varies : goal.returns-then-varies
@@ -19,5 +18,5 @@ returns-then-leans_right c = simp (single_1, c.if-varies.false, ← c.leans_righ
 pub returns : goal.returns
 unfolding oblique_lean ital slnt
 returns c =
-    let skew = to_z-of_z w8 c.truncate_to_i8.result (record { sfits = c.truncate_to_i8.type-inv }) ∙ c.truncate_to_i8.ensures in
+    let skew = to_z-of_z w8 c.truncate_to_i8.result (record { sfits = c.truncate_to_i8.type_inv }) ∙ c.truncate_to_i8.ensures in
     ap Skewed skew ∙ sym (rw (sym c.leans_right.ensures ∙ c.if-leans_right.false, c.if-varies.false))

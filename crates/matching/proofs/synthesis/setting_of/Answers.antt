@@ -1,6 +1,5 @@
 use mathlib.Core.Path.{sym, ap}
 use Rattle.matching.specs.Synthesis.{setting_of}
-use borrow.Author.Rules.{rules}
 use Rattle.matching.proofs.synthesis.setting_of.Goals as goal
 
 pub returns-in-Upright : goal.returns-in-Upright

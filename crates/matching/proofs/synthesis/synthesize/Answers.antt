@@ -3,7 +3,6 @@ use mir.Syntax.{w8}
 use mir.ValLaws.{to_z-of_z}
 use mathlib.Core.Path.{◌∙◌, ap}
 use Rattle.matching.specs.Synthesis.{setting_of, skew_of, unvaried, added, synthesized}
-use borrow.Author.Rules.{rules}
 use Rattle.matching.proofs.synthesis.synthesize.Goals as goal
 
 pub returns : goal.returns
@@ -11,7 +10,7 @@ unfolding synthesized
 returns c =
     let skewed = c.skew_of in
     let lean = c.lean_of-lean.ensures in
-    let skew = to_z-of_z w8 skewed.result (record { sfits = skewed.type-inv }) ∙ skewed.ensures ∙ ap skew_of lean in
+    let skew = to_z-of_z w8 skewed.result (record { sfits = skewed.type_inv }) ∙ skewed.ensures ∙ ap skew_of lean in
     c.added-3.ensures
     ∙ (λ k.
     added

@@ -1,6 +1,5 @@
 use borrow.Author.Tests.{eq-eqb, ne_eqb}
 use Rattle.matching.specs.Synthesis.{weight_setting, wght}
-use borrow.Author.Rules.{rules}
 use Rattle.matching.proofs.synthesis.weight_setting.Goals as goal
 
 pub returns-then-order_number : goal.returns-then-order_number

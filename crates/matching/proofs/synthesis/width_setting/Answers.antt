@@ -1,7 +1,6 @@
 use borrow.Author.Tests.{eq-eqb, ne_eqb}
 use Rattle.matching.proofs.Numbers.{single_100}
 use Rattle.matching.specs.Synthesis.{width_setting, wdth}
-use borrow.Author.Rules.{rules}
 use Rattle.matching.proofs.synthesis.width_setting.Goals as goal
 
 pub returns-then-order_number : goal.returns-then-order_number

@@ -10,7 +10,6 @@ use Rattle.matching.specs.declared.family.Fetched.{Fetched}
 use Rattle.matching.specs.Matching.{no_face, faces_refusal}
 use Rattle.matching.specs.Family.{fetch_refusal, fetched}
 use Rattle.matching.proofs.Matched.{faces_few}
-use borrow.Author.Rules.{rules}
 use Rattle.matching.proofs.family.FamilyInfo.match_font.Goals as goal
 
 -- the answer with a refusal

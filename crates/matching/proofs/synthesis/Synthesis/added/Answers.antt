@@ -1,6 +1,5 @@
 use mathlib.Core.Path.{sym, ◌∙◌, ap}
 use Rattle.matching.specs.Synthesis.{added}
-use borrow.Author.Rules.{rules}
 use Rattle.matching.proofs.synthesis.Synthesis.added.Goals as goal
 
 pub returns-in-Unset : goal.returns-in-Unset
