@@ -57,14 +57,14 @@ loop-i-preserved c =
     let same : same_face (face_of_row c.place_row-face.result) (face_of_row c.place_row-wanted.result) ≡ same_face (face_of_row (place_row a.rows.now a.members.now l.i)) (face_of_row (place_row a.rows.now a.members.now a.chosen)) =
     λ k. same_face (face_of_row (c.place_row-face.ensures k)) (face_of_row (c.place_row-wanted.ensures k)) in
     elim c.if-is_held.branch [
-      then-is_held+then-same_face+else-left-eq0 w ↦ let h : held_row a.rows.now a.members.now l.i ≡ true = sym held ∙ w.if-is_held.true in
-    let e = sym same ∙ sym w.same_face.ensures ∙ w.if-same_face.true in
-    (omega arith, omega (arith, l.invariant.1, w.if-left-eq0.false, w.left-is, ap length (placed p l.i (λ k. h k && e k)), longer (places_below p l.i) l.i))
-    | then-is_held+else-same_face w ↦ let h : held_row a.rows.now a.members.now l.i ≡ true = sym held ∙ w.if-is_held.true in
-    let e = sym same ∙ sym w.same_face.ensures ∙ w.if-same_face.false in
-    (omega arith, omega (arith, l.invariant.1, w.left-is, ap length (passed p l.i (λ k. h k && e k))))
-    | else-is_held w ↦ let h : held_row a.rows.now a.members.now l.i ≡ false = sym held ∙ w.if-is_held.false in
-    (omega arith, omega (arith, l.invariant.1, w.left-is, ap length (passed p l.i (λ k. h k && same_face (face_of_row (place_row a.rows.now a.members.now l.i)) (face_of_row (place_row a.rows.now a.members.now a.chosen))))))
+      | then-is_held+then-same_face+else-left-eq0 w ↦ let h : held_row a.rows.now a.members.now l.i ≡ true = sym held ∙ w.if-is_held.true in
+          let e = sym same ∙ sym w.same_face.ensures ∙ w.if-same_face.true in
+          (omega arith, omega (arith, l.invariant.1, w.if-left-eq0.false, w.left-is, ap length (placed p l.i (λ k. h k && e k)), longer (places_below p l.i) l.i))
+      | then-is_held+else-same_face w ↦ let h : held_row a.rows.now a.members.now l.i ≡ true = sym held ∙ w.if-is_held.true in
+          let e = sym same ∙ sym w.same_face.ensures ∙ w.if-same_face.false in
+          (omega arith, omega (arith, l.invariant.1, w.left-is, ap length (passed p l.i (λ k. h k && e k))))
+      | else-is_held w ↦ let h : held_row a.rows.now a.members.now l.i ≡ false = sym held ∙ w.if-is_held.false in
+          (omega arith, omega (arith, l.invariant.1, w.left-is, ap length (passed p l.i (λ k. h k && same_face (face_of_row (place_row a.rows.now a.members.now l.i)) (face_of_row (place_row a.rows.now a.members.now a.chosen))))))
     ]
 
 pub returns : goal.returns

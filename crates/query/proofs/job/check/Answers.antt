@@ -4,4 +4,4 @@ use borrow.Author.Rules.{rules}
 use Rattle.query.proofs.job.check.Goals as goal
 
 pub returns : goal.returns
-returns c = (c.walk-walked.ensures.checked, demands _ (λ i. omega (arith, c.shared_slice_known-1.given i)))
+returns c = record { value = c.walk-walked.ensures.checked; demands = demands _ (λ i. omega (arith, c.type_inv.job i)) }

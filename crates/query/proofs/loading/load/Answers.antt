@@ -6,9 +6,9 @@ use Rattle.query.proofs.loading.load.Goals as goal
 pub load_faces-requires : goal.load_faces-requires
 load_faces-requires c =
     let count = c.u16_at-faces.ensures in (
-      c.requires.0.0,
+      c.requires.reading_value.0,
       faces_lie c.walk-walked.ensures c.if-walked-eq0.true count,
-      omega (arith, faces_number c.walk-walked.ensures c.if-walked-eq0.true count, c.requires.0.1),
+      omega (arith, faces_number c.walk-walked.ensures c.if-walked-eq0.true count, c.requires.reading_value.1),
     )
 
 pub overflow_add-section : goal.overflow_add-section
@@ -21,8 +21,8 @@ load_overrides-requires c =
 
 pub returns-then-walked-eq0 : goal.returns-then-walked-eq0
 returns-then-walked-eq0 c =
-    loads c.walk-walked.ensures c.if-walked-eq0.true c.u16_at-faces.ensures c.requires.0.0 c.load_faces.ensures c.requires.0.1
-    c.load_overrides.ensures c.u16_at-count.ensures (search rules) c.requires.1
+    loads c.walk-walked.ensures c.if-walked-eq0.true c.u16_at-faces.ensures c.requires.reading_value.0 c.load_faces.ensures c.requires.reading_value.1
+    c.load_overrides.ensures c.u16_at-count.ensures (search rules) c.requires.by_index
 
 pub returns-else-walked-eq0 : goal.returns-else-walked-eq0
 returns-else-walked-eq0 c = loads_nothing c.walk-walked.ensures c.if-walked-eq0.false

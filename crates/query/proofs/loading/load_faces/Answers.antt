@@ -13,8 +13,7 @@ loop-i-init c = (omega arith, faces_first)
 
 pub file_end-end-requires : goal.file_end-end-requires
 file_end-end-requires c =
-    let l = c in
-    omega (arith, place_low l.loop-test.true l.before.loop.invariant.1 l.before.before.before.requires.1)
+    omega (arith, place_low c.loop-i-test.true c.loop-i.invariant.1 c.requires.1)
 
 pub overflow_add-file : goal.overflow_add-file
 overflow_add-file c = omega (arith, place_low c.loop-i-test.true c.loop-i.invariant.1 c.requires.1)
@@ -38,7 +37,10 @@ row_at-row-requires c =
     let lie = c.requires.1 in
     let file = file_part _ _ _ end in
     let number = number_there _ _ _ c.behind_file-behind.ensures end in
-    ((omega (arith, place_low c.loop-i-test.true left lie), file, number), under_reading _ _ _ c.requires.0 ∙ font_there c.loop-i-test.true left lie file number)
+    record {
+      at_bound = (omega (arith, place_low c.loop-i-test.true left lie), file, number);
+      number_value = under_reading _ _ _ c.requires.0 ∙ font_there c.loop-i-test.true left lie file number;
+    }
 
 pub bounds-rows-i : goal.bounds-rows-i
 bounds-rows-i c = omega (arith, c.loop-i.invariant.1.long, c.requires.2)

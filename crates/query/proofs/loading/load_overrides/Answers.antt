@@ -1,9 +1,9 @@
 use Prim.Native.Nat.{◌+◌, ◌*◌, ◌-◌, ◌≤◌}
-use mathlib.Core.Logic.{⊎_elim}
 use native.Mathlib.Omega.{arith}
 use Rattle.query.proofs.OverriddenRows.{RowsLeft, rows_first, row_changed, no_row, rows_last}
 use borrow.Author.Rules.{rules}
 use Rattle.query.proofs.loading.load_overrides.Goals as goal
+use Rattle.query.proofs.loading.load_overrides.Goals.{then-face-rows, else-face-rows}
 
 pub loop-i-init : goal.loop-i-init
 loop-i-init c = (omega arith, omega arith, rows_first)
@@ -15,10 +15,10 @@ loop-i-preserved c =
     let next = c.override_end-place.ensures in (
       omega arith,
       omega (arith, next.1),
-      ⊎_elim
-          (λ w. rw w.4 (row_changed (omega arith) left next.0 named w.2.ensures w.3.ensures))
-          (λ w. rw w.1 (no_row (omega arith) left next.0 named w.0.left))
-          c.if-face-rows.branch,
+      elim c.if-face-rows.branch [
+        | then-face-rows w ↦ rw w.rows-is (row_changed (omega arith) left next.0 named w.given_at.ensures w.override_row-row.ensures)
+        | else-face-rows w ↦ rw w.rows-is (no_row (omega arith) left next.0 named w.if-face-rows.false)
+      ],
     )
 
 pub shape_of-rows : goal.shape_of-rows

@@ -21,11 +21,11 @@ unfolding row_at marks attributes_in axis_in stated_at face_at
 row_of_lem reading s at f n e h x = rw (x, h, e, n, f) refl
 
 pub read_stated-stated-requires : goal.read_stated-stated-requires
-read_stated-stated-requires c = c.requires.1
+read_stated-stated-requires c = c.requires.number_value
 
 pub returns : goal.returns
 unfolding slnt
 returns c =
-    let given = c.requires.0 in
+    let given = c.requires.at_bound in
     c.row.ensures
     ∙ row_of_lem _ _ _ given.1 given.2 c.read_stated-stated.ensures (c.bit_of-held.ensures.0 ∙ ap (λ (b : ℕ). bit_of (eqb b 1)) c.byte_at.ensures) c.bit_of-slant.ensures.0

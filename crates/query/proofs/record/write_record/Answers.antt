@@ -26,12 +26,12 @@ pub returns : goal.returns
 unfolding record_bytes slot_at
 returns c =
     let s = c.args.synthesis in
-    let l : length c.put_index.new.0 ≤ record_size = omega (arith, c.put_index.auto.0) in
-    sym (take_all record_size c.put_index.new.0 l)
+    let l : length c.put_index.new.out ≤ record_size = omega (arith, c.put_index.auto.out) in
+    sym (take_all record_size c.put_index.new.out l)
     ∙ put_on c.put_index.ensures
     (put_on c.put_slot-3.ensures
     (put_on c.put_slot-2.ensures
-    (put_on c.put_slot.ensures (c.put_head.ensures ∙ ap (λ z. head_bytes c.args.offer s.embolden z s.len) (to_z-of_z {w = w8} {z = s.skew} (record { sfits = c.struct_told-1.given.1.1.1.1.1.0.1 }))) refl) refl)
+    (put_on c.put_slot.ensures (c.put_head.ensures ∙ ap (λ z. head_bytes c.args.offer s.embolden z s.len) (to_z-of_z {w = w8} {z = s.skew} (record { sfits = search rules }))) refl) refl)
     refl)
     refl
     ∙ simp append_assoc

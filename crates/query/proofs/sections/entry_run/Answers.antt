@@ -19,7 +19,7 @@ pub returns-then-next-ne0 : goal.returns-then-next-ne0
 returns-then-next-ne0 c =
     let inv = c.loop-i.invariant in
     let end = stopped _ _ _ _ _ inv.0 c.loop-i-test.true c.entry-next.ensures c.if-next-ne0.true in
-    (end.0, (end.1, inv.1))
+    record { value = end.0; noted_run = end.1; kept_from = inv.1 }
 
 pub note-requires : goal.note-requires
 note-requires c = omega (arith, entry_begins c.args.section _ _ c.entry-next.ensures c.if-next-ne0.false)
@@ -47,4 +47,4 @@ pub returns : goal.returns
 returns c =
     let inv = c.loop-i.invariant in
     let end = finished _ _ _ _ _ inv.0 c.loop-i-test.false in
-    (end.0, (end.1, inv.1))
+    record { value = end.0; noted_run = end.1; kept_from = inv.1 }

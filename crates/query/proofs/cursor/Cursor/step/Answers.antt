@@ -12,4 +12,4 @@ unfolding stepped is_offer
 returns c =
     let e = c.offer_at-answer.ensures in
     let go = c.after-self.ensures ∙ ap (λ (x : Answer). after c.args.self (eqb x.result 0)) e in
-    ((λ i. record { cursor = go i; answer = e i }), demands _ (λ i. omega (arith, c.shared_slice_known-1.given i)))
+    record { value = λ i. record { cursor = go i; answer = e i }; demands = demands _ (λ i. omega (arith, c.type_inv.job i)) }
