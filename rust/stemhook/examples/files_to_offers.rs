@@ -2,15 +2,14 @@
 //! the offers for four requests; with whole files in the job, and with just what
 //! the picker looks at.
 //!
-//!     cargo run --release --example files_to_offers -- [--reading opentype] FOLDER..
+//!     cargo run --release --example files_to_offers -- [--opentype] FOLDER..
 //!
-//! Under the reading opentype the slant numbers of fonts count in OpenType's
-//! sense, else, or under the reading stored, as they stand in the font.
+//! With --opentype the slant numbers of fonts count in OpenType's sense, else as
+//! they are stored.
 
 use std::{
     env,
     error::Error,
-    ffi::OsStr,
     fs,
     path::Path,
     time::{Duration, Instant},
@@ -24,13 +23,13 @@ use stemhook::{
 const ROUNDS: usize = 21;
 
 fn main() -> Result<(), Box<dyn Error>> {
-    let mut words = env::args_os().skip(1).peekable();
-    let reading = match words.next_if(|word| word == "--reading") {
-        Some(_) => named(&words.next().unwrap_or_default())?,
-        None => Reading::default(),
-    };
     println!("| Folder | Files | In the job | Job, bytes | Read | Build | Offers | In all |");
     println!("|---|---|---|---|---|---|---|---|");
+    let mut words = env::args_os().skip(1).peekable();
+    let reading = match words.next_if(|word| word == "--opentype") {
+        Some(_) => Reading::OpenType,
+        None => Reading::AsStored,
+    };
     for folder in words {
         let folder = Path::new(&folder);
         let name = folder.file_name().unwrap_or_default().to_string_lossy();
@@ -45,15 +44,6 @@ fn main() -> Result<(), Box<dyn Error>> {
         }
     }
     Ok(())
-}
-
-/// The reading of a word.
-fn named(word: &OsStr) -> Result<Reading, String> {
-    match word.to_str() {
-        Some("stored") => Ok(Reading::AsStored),
-        Some("opentype") => Ok(Reading::OpenType),
-        _ => Err(format!("{word:?} is not a reading: stored or opentype")),
-    }
 }
 
 /// The files of a folder whose fonts can be read, up to a family's most.
