@@ -7,6 +7,7 @@ use crate::tree::{Constant, Definition, File, Function, Parameter, TypeTree, Var
 impl Parser {
     pub(super) fn file(&mut self) -> Read<File> {
         let mut file = File::default();
+        self.inner_attributes()?;
         while self.peek().is_some() {
             self.item(&mut file)?;
         }
@@ -19,8 +20,7 @@ impl Parser {
         }
         let public = self.visibility()?;
         if self.takes_word("use") {
-            file.uses.push(self.path()?);
-            return self.expect(";");
+            return self.used(file);
         }
         if self.takes_word("mod") {
             file.modules.push((self.name()?, public));
@@ -53,6 +53,29 @@ impl Parser {
         self.member(file, None, public)
     }
 
+    /// A path, or several that begin alike: `a::{b, c}`, of single names.
+    fn used(&mut self, file: &mut File) -> Read<()> {
+        let mut path = vec![self.name()?];
+        while self.takes("::") {
+            if self.takes("{") {
+                for name in self.list("}", Self::used_name)? {
+                    file.uses.push([path.as_slice(), &[name]].concat());
+                }
+                return self.expect(";");
+            }
+            path.push(self.name()?);
+        }
+        file.uses.push(path);
+        self.expect(";")
+    }
+
+    fn used_name(&mut self) -> Read<String> {
+        if self.sees_word("self") {
+            return self.fail("a name of its own");
+        }
+        self.name()
+    }
+
     fn ghost_use(&mut self) -> Read<()> {
         if !self.takes_word("use") {
             return self.fail("use");
@@ -66,12 +89,42 @@ impl Parser {
         Ok(())
     }
 
+    /// `#![tactic(..)]`, of proofs alone.
+    fn inner_attributes(&mut self) -> Read<()> {
+        while self.sees("#") && matches!(self.peek_at(1), Some(Token::Mark("!"))) {
+            self.at += 2;
+            self.expect("[")?;
+            if !self.takes_word("tactic") {
+                return self.fail("tactic");
+            }
+            self.expect("(")?;
+            self.list(")", Self::name)?;
+            self.expect("]")?;
+        }
+        Ok(())
+    }
+
+    /// An attribute that changes no code: its name alone, `derive` of copies, or `unsafe(no_mangle)`.
+    fn attribute(&mut self) -> Read<()> {
+        self.expect("[")?;
+        let words = match self.name()?.as_str() {
+            "derive" => &["Clone", "Copy"][..],
+            "unsafe" => &["no_mangle"],
+            _ => return self.expect("]"),
+        };
+        self.expect("(")?;
+        for name in self.list(")", Self::name)? {
+            if !words.contains(&name.as_str()) {
+                return self.fail("a known attribute");
+            }
+        }
+        self.expect("]")
+    }
+
     /// Attributes and `pub`: whether the item is for other crates.
     fn visibility(&mut self) -> Read<bool> {
         while self.takes("#") {
-            self.expect("[")?;
-            self.name()?;
-            self.expect("]")?;
+            self.attribute()?;
         }
         if !self.takes_word("pub") {
             return Ok(false);

@@ -167,7 +167,10 @@ fn by_ranks_of_another_name() {
     let mut planted = real();
     for source in &mut planted.sources {
         source.text = source.text.replace("rank::", "turns::");
-        source.text = source.text.replace("crate::rank;", "crate::turns;");
+        source.text = source.text.replace(
+            "{matching, order, rank, rows}",
+            "{matching, order, turns, rows}",
+        );
         if source.module == "rank" {
             source.module = "turns".into();
         }

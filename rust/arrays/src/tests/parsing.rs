@@ -124,8 +124,8 @@ fn matches_and_patterns() {
 #[test]
 fn functions_with_clauses() {
     let text = "pub(crate) fn data<'a>(mut self, file: &'a [u8], out: &mut [Row; 64]) -> &'a [u8]
-        requires { ⌜ f {x} < 2 ^ 32 ⌝ }
-        ensures demand { λ r. ⌜ r ≡ «a_b» ⌝ }
+        requires { f {x} < 2 ^ 32 }
+        ensures demand { (result ≡ «a_b») × (λ (y : Face). y.percent) file.now }
     { file }";
     let function = &file(text).functions[0];
     assert_eq!(function.name, "data");
@@ -141,21 +141,27 @@ fn functions_with_clauses() {
         TypeTree::Reference { mutable: true, .. }
     ));
     assert!(function.body.tail.is_some());
-    assert!(file("#[no_mangle]\npub extern \"C\" fn f() {}").functions[0].public);
+    assert!(file("#[unsafe(no_mangle)]\npub extern \"C\" fn f() {}").functions[0].public);
 }
 
 #[test]
 fn other_items() {
-    let text = "ghost use Rattle·query.specs.{_≡_, []};
+    let text = "// The head.
+        #![tactic(auto)]
+        ghost use Rattle.query.specs.{◌≡◌, []};
         use crate::a::b;
+        use crate::{c, d};
+        use font::e::{F,};
         pub mod one; mod two;
         pub type Row = [u32; 5];
+        #[derive(Clone, Copy)]
         struct S { pub a: u8, b: [S; N] }
         enum E { A, B(u8, f32), C { at: usize } }
         impl S { pub const N: S = S { a: 1 }; fn new() -> Self { S::N } }
         const N: usize = 4 * 16;";
     let seen = file(text);
-    assert_eq!(seen.uses, [["crate", "a", "b"]]);
+    let uses: Vec<String> = seen.uses.iter().map(|path| path.join("::")).collect();
+    assert_eq!(uses, ["crate::a::b", "crate::c", "crate::d", "font::e::F"]);
     assert_eq!(seen.modules, [("one".into(), true), ("two".into(), false)]);
     assert_eq!(seen.constants.len(), 2);
     assert_eq!(seen.functions[0].of.as_deref(), Some("S"));
@@ -175,7 +181,18 @@ fn what_is_refused() {
     refused("fn f() { a b }");
     refused("fn f() { while true { break; } }");
     refused("fn f<T>() { }");
-    refused("use a::{b, c};");
+    refused("use a::{b, c::d};");
+    refused("use a::{b as c};");
+    refused("use a::{b::{c}};");
+    refused("use a::{self};");
+    refused("use a::*;");
+    refused("use {a, b};");
+    refused("#[cfg(test)]\nfn f() { }");
+    refused("#[derive(Clone, Default)]\nstruct S { }");
+    refused("#[unsafe(naked)]\nfn f() { }");
+    refused("#[unsafe(no_mangle)(x)]\nfn f() { }");
+    refused("#![cfg(test)]");
+    refused("fn f() { }\n#![tactic(auto)]");
     refused("trait T { }");
     refused("fn f() { a");
     refused("fn f() requires { a");
