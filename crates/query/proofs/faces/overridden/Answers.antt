@@ -41,8 +41,8 @@ loop-i-preserved c =
     let face = c.u16_at.ensures in
     let one : c.if-u16_at-number.changed ≡ after_one_of o start.number c.loop-i.changed =
     elim c.if-u16_at-number.branch [
-      then-u16_at-number w ↦ w.changed-is ∙ w.override_face-next.ensures ∙ named o start.number c.loop-i.changed (sym face ∙ w.if-u16_at-number.true)
-    | else-u16_at-number w ↦ w.changed-is ∙ not_named o start.number c.loop-i.changed (λ e. w.if-u16_at-number.false (face ∙ e))
+      | then-u16_at-number w ↦ w.changed-is ∙ w.override_face-next.ensures ∙ named o start.number c.loop-i.changed (sym face ∙ w.if-u16_at-number.true)
+      | else-u16_at-number w ↦ w.changed-is ∙ not_named o start.number c.loop-i.changed (λ e. w.if-u16_at-number.false (face ∙ e))
     ] in (
       omega arith,
       omega (arith, c.override_end-place.ensures.1),
