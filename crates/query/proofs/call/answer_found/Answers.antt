@@ -1,5 +1,4 @@
 use Rattle.query.proofs.AnswerCases.{face_answered}
-use borrow.Author.Rules.{rules}
 use Rattle.query.proofs.call.answer_found.Goals as goal
 
 pub returns-then-found-ne0 : goal.returns-then-found-ne0

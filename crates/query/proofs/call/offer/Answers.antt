@@ -1,4 +1,3 @@
-use native.Mathlib.Omega.{arith}
 use Rattle.query.proofs.AnswerCases.{wrong_length, answer_writable, record_written, nothing_written}
 use Rattle.query.proofs.Demands.{demands}
 use borrow.Author.Rules.{rules}

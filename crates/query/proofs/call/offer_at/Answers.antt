@@ -1,7 +1,6 @@
 use mathlib.Core.Path.{sym, ◌∙◌}
 use native.Mathlib.Omega.{arith}
 use Rattle.query.proofs.AnswerCases.{no_reading}
-use borrow.Author.Rules.{rules}
 use Rattle.query.proofs.call.offer_at.Goals as goal
 
 pub returns-then-not-is_reading : goal.returns-then-not-is_reading

@@ -3,7 +3,6 @@ use native.Mathlib.Omega.{arith}
 use Rattle.query.proofs.Checks.{short_job}
 use Rattle.query.proofs.JobTables.{counted_at}
 use Rattle.query.proofs.NamedFaces.{family_few, number_has_row, entry_inside, entry_taken, face_named}
-use borrow.Author.Rules.{rules}
 use Rattle.query.proofs.call.place_of_face.Goals as goal
 
 pub bounds-families-family : goal.bounds-families-family

@@ -2,7 +2,6 @@
 use native.Mathlib.Omega.{arith}
 use Rattle.query.proofs.Checks.{short_job}
 use Rattle.query.proofs.AnswerCases.{finds_none, past_list, found_names, finds_offer}
-use borrow.Author.Rules.{rules}
 use Rattle.query.proofs.call.search_request.Goals as goal
 
 pub attributes_at-wanted-requires : goal.attributes_at-wanted-requires

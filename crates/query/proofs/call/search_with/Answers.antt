@@ -4,7 +4,6 @@ use lib.ListN.{get_or-replicate}
 use Rattle.query.specs.Sizes.{most_families}
 use Rattle.query.specs.CallTables.{nowhere}
 use Rattle.query.proofs.AnswerCases.{finds_none, finds_same, job_refused, refusal_is, unknown_request, request_inside, request_answered}
-use borrow.Author.Rules.{rules}
 use Rattle.query.proofs.call.search_with.Goals as goal
 
 pub load-walked-requires : goal.load-walked-requires

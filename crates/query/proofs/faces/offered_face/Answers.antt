@@ -7,17 +7,16 @@ use native.Mathlib.Omega.{arith}
 use Rattle.font.specs.declared.font.FontInfo.{FontInfo}
 use Rattle.font.specs.Slant.{is_reading}
 use Rattle.font.specs.Collection.{font_start}
-use Rattle.font.specs.Font.{font_refusal, face_of, from_font_ref}
+use Rattle.font.specs.Font.{font_refusal, face_of}
 use Rattle.font.proofs.FaceOf.{under_reading, accepted_face_lem, few_axes}
 use Rattle.query.specs.declared.fields.Behind.{Behind}
 use Rattle.query.specs.Sizes.{most_overrides}
 use Rattle.query.specs.Fields.{NumberedFont}
 use Rattle.query.specs.Entries.{read_override}
-use Rattle.query.specs.Values.{file_at, file_end, number_behind, behind_file, face_at}
+use Rattle.query.specs.Values.{file_at, file_end, behind_file, face_at}
 use Rattle.query.specs.View.{after_overrides, stated_by}
 use Rattle.query.specs.CallTables.{FontTaken}
 use Rattle.query.proofs.OverridesLeft.{counted_lies}
-use borrow.Author.Rules.{rules}
 use Rattle.query.proofs.faces.offered_face.Goals as goal
 use Rattle.query.proofs.faces.offered_face.Goals.{After-read_font-font}
 

@@ -1,5 +1,5 @@
 -- The invariant: the families before `k` are passed, and `left` is what is left of the number.
-use Prim.Native.Nat.{ℕ, ◌+◌, ◌-◌, ◌≤◌}
+use Prim.Native.Nat.{ℕ, ◌+◌}
 use mathlib.Core.Path.{◌≡◌, refl, sym, ◌∙◌, ap}
 use mathlib.Core.List.{List}
 use native.Mathlib.Omega.{arith}
@@ -8,10 +8,8 @@ use Rattle.query.specs.declared.families.FamilyOffer.{FamilyOffer}
 use Rattle.query.specs.declared.offers.ListOffer.{ListOffer}
 use Rattle.query.specs.Values.{list_at}
 use Rattle.query.specs.Offers.{offer_of}
-use Rattle.query.specs.CallTables.{TablesOf}
-use Rattle.query.specs.Listed.{row_offers, Counted}
+use Rattle.query.specs.Listed.{row_offers}
 use Rattle.query.proofs.Turns.{list_length, list_number, turns, after_one, one_more, no_more}
-use borrow.Author.Rules.{rules}
 use Rattle.query.proofs.offers.list_offer.Goals as goal
 use Rattle.query.proofs.offers.list_offer.Goals.{After-number_offer}
 

@@ -11,7 +11,6 @@ use Rattle.query.specs.Listed.{offers_at, row_offers}
 use Rattle.query.proofs.Picked.{pick_past}
 use Rattle.query.proofs.FamilyLists.{Passed, passed_by}
 use Rattle.query.proofs.RowFamilies.{unknown_number, members_known, number_by_rows, number_few, still_loaded, one_counted}
-use borrow.Author.Rules.{rules}
 use Rattle.query.proofs.offers.number_offer.Goals as goal
 use Rattle.query.proofs.offers.number_offer.Goals.{After-entry_offer}
 

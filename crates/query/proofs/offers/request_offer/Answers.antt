@@ -12,7 +12,6 @@ use Rattle.query.specs.Values.{list_at, list_end, request_at}
 use Rattle.query.specs.Listed.{row_offers, listed_at}
 use Rattle.query.proofs.RowFamilies.{none_counted}
 use Rattle.query.proofs.Turns.{after_all, after_named, cut_off, not_cut}
-use borrow.Author.Rules.{rules}
 use Rattle.query.proofs.offers.request_offer.Goals as goal
 use Rattle.query.proofs.offers.request_offer.Goals.{After-list_offer, After-list_offer-in-Left}
 
