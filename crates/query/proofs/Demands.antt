@@ -10,7 +10,7 @@ use borrow.Author.Tests.{ne_eqb, lt-ltb, le-leb, lt-leb}
 use Rattle.font.specs.declared.attributes.Attributes.{Attributes}
 use Rattle.font.specs.Attributes.{default_attributes}
 use Rattle.font.specs.Slant.{is_reading}
-use Rattle.matching.specs.Order.{choice, Demand}
+use Rattle.matching.specs.Order.{choice}
 use Rattle.matching.specs.Matching.{family_of, request_of}
 use Rattle.matching.proofs.Demand.{demand}
 use Rattle.matching.proofs.Matched.{bounded, weights_short}

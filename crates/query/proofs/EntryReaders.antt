@@ -3,7 +3,7 @@ use Prim.Native.Nat.{ℕ, ◌+◌, ◌≤◌}
 use mathlib.Core.Path.{◌≡◌, refl, sym, ap, ◌∙◌}
 use mathlib.Core.Bool.{Bool, true, false, cond}
 use mathlib.Core.List.{List, ◌++◌}
-use mathlib.Core.Logic.{◌⊎◌, inl, inr, ⊎_elim}
+use mathlib.Core.Logic.{inl, inr, ⊎_elim}
 use native.Mathlib.Omega.{arith}
 use lib.ListN.{length, take, drop, length-append, length-drop}
 use lib.Seq.{take-append-le, drop-append-le}
@@ -12,7 +12,7 @@ use borrow.Author.Tests.{le-leb, leb-true}
 use Rattle.font.specs.Collection.{is_collection, header_fits, font_count}
 use Rattle.font.specs.Font.{font_refusal}
 use Rattle.query.specs.Reader.{Refusal, past_end, over_limit, not_held, bad_directory, no_charmap, many_axes, unknown, no_font, damaged_table, number, Got, refused, got, Reader, done, onward, ◌>>=◌}
-use Rattle.query.specs.Fields.{half, word, count, counted, byte_counted, held_byte, mask, kind, spare_byte, or_spare, NumberedFont, font_row, font_bytes, sized_file, number_below, refused_at, font_number, font_taken, numbered, font_file}
+use Rattle.query.specs.Fields.{word, count, counted, byte_counted, held_byte, mask, kind, spare_byte, or_spare, NumberedFont, font_row, font_bytes, sized_file, number_below, refused_at, font_number, font_taken, numbered, font_file}
 use Rattle.query.specs.Entries.{read_face, read_angle, read_style, read_width, read_weight, style_or_spare, read_given, read_pair, read_override, read_family, read_requested, read_request}
 use Rattle.query.proofs.Readers.{place, Goes, Kept, Back, Passes, passes_then, Lacked, Reads, never, reads_done, reads_then, reads_many, OfField, Field, reads_field, tested_field, byte_field, half_field, word_field, ratio_field, value_field, spare_word_field, face_number_field}
 

@@ -27,7 +27,7 @@ use Rattle.query.specs.Fields.{half, word, ratio, value, counted, byte_counted, 
 use Rattle.query.specs.Entries.{read_face, style_of_kind, read_angle, read_style, read_width, read_weight, style_or_spare, read_given, read_pair, read_override, read_family, read_requested, read_request}
 use Rattle.query.specs.Layout.{Bytes, bytes8, bytes16, bytes32, bytes_of, after8, layout_font, layout_face, kind_of, angle_of, layout_angle, layout_style, gives_width, gives_style, gives_weight, mask_of, layout_width, layout_style_given, layout_weight, layout_given, layout_pair, layout_override, layout_family, layout_attributes, layout_request, Every, Fits8, Fits16, IsRatio, IsValue, FaceFits, AngleFits, StyleFits, WidthFits, StyleGivenFits, WeightFits, PairFits, OverrideFits, FamilyFits, RequestFits}
 use Rattle.query.proofs.Ends.{then_got}
-use Rattle.query.proofs.Stands.{Stands, join, split, none}
+use Rattle.query.proofs.Stands.{Stands, join, split}
 use Rattle.query.proofs.Exact.{Stood, Exact, exact_half, exact_word, exact_ratio, exact_value, exact_held, exact_face_number, exact_mask, exact_kind, exact_spare_byte, exact_spare_word}
 use Rattle.query.proofs.ExactLists.{then_is, done_got, done_is, stood_as, exact_counted, exact_byte_counted}
 use Rattle.query.proofs.ExactFonts.{exact_font}

@@ -13,7 +13,7 @@ use Rattle.font.specs.Font.{font_refusal}
 use Rattle.font.proofs.FaceOf as FaceOf
 use Rattle.query.specs.Reader.{Refusal, past_end, bad_directory, refused, got, done}
 use Rattle.query.specs.Fields.{word, NumberedFont, font_row, font_bytes, sized_file, number_below, refused_at, font_number, font_taken, numbered, font_file}
-use Rattle.query.specs.Layout.{Bytes, bytes16, bytes32, layout_number, layout_font, Fits16, Fits32, FontFits}
+use Rattle.query.specs.Layout.{Bytes, bytes16, bytes32, layout_number, layout_font, Fits16, FontFits}
 use Rattle.query.proofs.Ends.{then_got}
 use Rattle.query.proofs.Stands.{Stands, join, split, none}
 use Rattle.query.proofs.Exact.{Stood, Exact, there32, exact_word, exact_number_below}

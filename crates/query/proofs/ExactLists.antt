@@ -1,11 +1,10 @@
 -- Lists of entries are read exactly.
-use Prim.Native.Nat.{ℕ, zero, suc, ◌+◌, ◌≤◌}
-use mathlib.Core.Path.{◌≡◌, refl, sym, ap, ◌∙◌, subst}
-use mathlib.Core.Bool.{Bool, true, false, cond}
+use Prim.Native.Nat.{ℕ, zero, suc, ◌≤◌}
+use mathlib.Core.Path.{◌≡◌, refl, ap, subst}
 use mathlib.Core.List.{List, [], ◌∷◌}
 use native.Mathlib.Omega.{arith}
 use lib.ListN.{length}
-use Rattle.query.specs.Reader.{Got, refused, got, Reader, done, onward, ◌>>=◌, many}
+use Rattle.query.specs.Reader.{Got, got, Reader, done, onward, ◌>>=◌, many}
 use Rattle.query.specs.Fields.{byte, count, counted, byte_counted}
 use Rattle.query.specs.Layout.{Bytes, bytes8, bytes16, each, after8, after16, Every, Fits8}
 use Rattle.query.proofs.Ends.{then_got}

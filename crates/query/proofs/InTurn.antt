@@ -1,13 +1,11 @@
 -- The refusals of a face entry's font come in the turn that `specs/InTurn.antt` says, each at its place. Assumes nothing.
 use Prim.Native.Nat.{ℕ, ◌+◌, ◌*◌, ◌≤◌, ◌<◌}
 use mathlib.Core.Path.{◌≡◌, refl, sym, ap, ◌∙◌}
-use mathlib.Core.Bool.{true, false}
+use mathlib.Core.Bool.{false}
 use mathlib.Core.List.{List}
 use native.Mathlib.Omega.{arith}
 use lib.ListN.{length}
-use lib.Dec.{ltb}
 use borrow.Author.Tests.{leb-true, le-leb, lt-leb, lt-ltb, le-ltb, eq-eqb, ne_eqb}
-use Rattle.font.specs.Tables.{u16_at, directory_fits}
 use Rattle.font.specs.Collection.{is_collection, header_fits, font_count, font_start}
 use Rattle.font.specs.Font.{refusal_at, font_refusal}
 use Rattle.font.proofs.Lookup.{past_file}

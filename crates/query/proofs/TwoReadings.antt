@@ -2,7 +2,6 @@
 use Prim.Native.Nat.{ℕ}
 use mathlib.Core.Path.{◌≡◌, refl, sym, ap, ◌∙◌}
 use mathlib.Core.Bool.{Bool, true, false, cond}
-use mathlib.Core.List.{List}
 use native.Mathlib.Omega.{arith}
 use lib.Dec.{ltb}
 use lib.ListN.{length}
@@ -13,10 +12,9 @@ use Rattle.font.specs.Slant.{is_reading, opposite_face}
 use Rattle.font.proofs.TwoReadings as Font
 use Rattle.matching.specs.declared.synthesis.Synthesis.{Synthesis}
 use Rattle.matching.specs.Matching.{family_of, slnt}
-use Rattle.matching.specs.Synthesis.{unvaried, synthesized, varies_of, opposite_values, opposite_slant}
+use Rattle.matching.specs.Synthesis.{unvaried, varies_of, opposite_values, opposite_slant}
 use Rattle.matching.proofs.TwoReadings as Matching
 use Rattle.query.specs.declared.answer.Offer.{Offer}
-use Rattle.query.specs.declared.answer.Answer.{Answer}
 use Rattle.query.specs.declared.offers.Offered.{Offered}
 use Rattle.query.specs.declared.offers.Offered.TheVariants.{At, Past}
 use Rattle.query.specs.Fields.{NumberedFont}
@@ -27,7 +25,6 @@ use Rattle.query.specs.View.{View, stated_by, families_of, view_by, view_of}
 use Rattle.query.specs.Offers.{faces_of, offers_of, face_of_offer, synthesis_of_offer, offer_at}
 use Rattle.query.specs.Call.{without_offer, with_synthesis, answered, request_of_job, view_answer, request_answer, job_answer, answer_call, offer_call}
 use Rattle.query.specs.Cursor.{stepped, run}
-use Rattle.query.specs.Demands.{family_at}
 use Rattle.query.specs.TwoReadings.{opposite_view, opposite_answer, Old, TwoReadings}
 use Rattle.query.proofs.AcceptedJobs.{layout_is_accepted}
 use Rattle.query.proofs.AnswerCases.{no_fourth, called, call_written}

@@ -1,7 +1,6 @@
 -- "The order and list of 01 hold under the new reading with the negated numbers": under reading 1 the offers of a job are section 6's list for the faces whose
 -- stated angles, as their files give them, are negated; and reading 0 is section 6 as it stood. Proved in proofs/TwoReadings.antt.
 use Rattle.std.specs.Prelude.{ℕ, zero, suc, ◌≡◌, cond, List, [], ◌∷◌, map, ltb, eqb, length}
-use Rattle.font.specs.declared.font.FontInfo.{FontInfo}
 use Rattle.font.specs.Slant.{opposite_face}
 use Rattle.font.specs.Font.{from_font_ref}
 use Rattle.matching.specs.Matching.{family_of}

@@ -1,6 +1,5 @@
 use native.Mathlib.Omega.{arith}
 use Rattle.query.proofs.JobTables.{faces_counted}
-use borrow.Author.Rules.{rules}
 use Rattle.query.proofs.call.answer_few.Goals as goal
 
 pub search_with-requires : goal.search_with-requires

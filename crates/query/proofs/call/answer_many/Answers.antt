@@ -1,5 +1,4 @@
 use Rattle.query.proofs.JobTables.{faces_counted}
-use borrow.Author.Rules.{rules}
 use Rattle.query.proofs.call.answer_many.Goals as goal
 
 pub search_with-requires : goal.search_with-requires

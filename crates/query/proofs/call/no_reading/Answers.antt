@@ -1,6 +1,5 @@
 use mathlib.Core.Path.{sym, ◌∙◌}
 use borrow.Author.Tests.{le-leb, lt-leb}
-use borrow.Author.Rules.{rules}
 use Rattle.query.proofs.call.no_reading.Goals as goal
 
 pub returns-then-job-le-MOST_BYTES : goal.returns-then-job-le-MOST_BYTES

@@ -3,27 +3,26 @@ use native.Mathlib.Omega.{arith}
 use Rattle.query.proofs.Checks.{short_job}
 use Rattle.query.proofs.JobTables.{counted_at}
 use Rattle.query.proofs.NamedFaces.{family_few, number_has_row, entry_inside, entry_taken, face_named}
-use borrow.Author.Rules.{rules}
 use Rattle.query.proofs.call.place_of_face.Goals as goal
 
 pub bounds-families-family : goal.bounds-families-family
-bounds-families-family c = family_few c.requires.0.0 c.requires.1
+bounds-families-family c = family_few c.requires.tables_of.0 c.requires.names
 
 pub bounds-rows-number : goal.bounds-rows-number
-bounds-rows-number c = number_has_row c.requires.0.0 c.requires.1 c.wide-at.ensures.0 c.u16_at-number.ensures
+bounds-rows-number c = number_has_row c.requires.tables_of.0 c.requires.names c.wide-at.ensures.0 c.u16_at-number.ensures
 
 pub returns : goal.returns
 returns c =
-    let loaded = c.requires.0.0 in
-    let names = c.requires.1 in
+    let loaded = c.requires.tables_of.0 in
+    let names = c.requires.names in
     let begins = c.wide-at.ensures.0 in
     let short = short_job _ loaded.accepted in
-    let section = counted_at _ _ _ _ _ c.requires.0.1 in
+    let section = counted_at _ _ _ _ _ c.requires.tables_of.1 in
     let inside = entry_inside loaded names begins c.u16_at-number.ensures c.wide-entry.ensures.0 in
     record {
       found = refl;
       offer = refl;
       wanted_is = refl;
       readable = record { section = omega arith; overrides = section.few; entry = omega arith; taken = entry_taken loaded names begins c.u16_at-number.ensures c.wide-entry.ensures.0 };
-      face = λ reading font. face_named loaded names begins c.u16_at-number.ensures c.wide-entry.ensures.0 c.requires.0.1;
+      face = λ reading font. face_named loaded names begins c.u16_at-number.ensures c.wide-entry.ensures.0 c.requires.tables_of.1;
     }

@@ -4,11 +4,10 @@ use lib.ListN.{get_or-replicate}
 use Rattle.query.specs.Sizes.{most_families}
 use Rattle.query.specs.CallTables.{nowhere}
 use Rattle.query.proofs.AnswerCases.{finds_none, finds_same, job_refused, refusal_is, unknown_request, request_inside, request_answered}
-use borrow.Author.Rules.{rules}
 use Rattle.query.proofs.call.search_with.Goals as goal
 
 pub load-walked-requires : goal.load-walked-requires
-load-walked-requires c = let p = c.requires in ((p.0, p.1, refl), λ f l. get_or-replicate most_families f nowhere 0 l)
+load-walked-requires c = let p = c.requires in record { reading_value = (p.0, p.1, refl); by_index = λ f l. get_or-replicate most_families f nowhere 0 l }
 
 pub returns-then-walked-ne0 : goal.returns-then-walked-ne0
 returns-then-walked-ne0 c =
@@ -18,15 +17,15 @@ returns-then-walked-ne0 c =
 
 pub search_request-requires : goal.search_request-requires
 search_request-requires c =
-    let loads = loaded.load.ensures in
-    let z = ok.if1.false in
-    ((loads.loaded z, loads.uncounted z, loads.overrides z), request_inside loaded.before.before.before.before.requires.0 loads z request.if2.true)
+    let loads = c.load-walked.ensures in
+    let z = c.if-walked-ne0.false in
+    record { tables_of = (loads.loaded z, loads.uncounted z, loads.overrides z); request_in_bounds = request_inside c.requires.0 loads z c.if-request-walked.true }
 
 pub returns-then-request-walked : goal.returns-then-request-walked
 returns-then-request-walked c =
-    let loads = loaded.load.ensures in
-    let known = loaded.before.before.before.before.requires.0 in
-    finds_same (request_answered known loads ok.if1.false request.if2.true _) (c.search_request.ensures _ (loads.shown ok.if1.false))
+    let loads = c.load-walked.ensures in
+    let z = c.if-walked-ne0.false in
+    finds_same (request_answered c.requires.0 loads z c.if-request-walked.true _) (c.search_request.ensures _ (loads.shown z))
 
 pub returns : goal.returns
 returns c =

@@ -1,6 +1,5 @@
 use mathlib.Core.Path.{ap}
 use mathlib.Core.Bool.{false}
-use borrow.Author.Rules.{rules}
 use Rattle.matching.specs.declared.synthesis.Synthesis.{Synthesis}
 use Rattle.query.specs.Offers.{offer_of}
 use Rattle.query.specs.Call.{without_offer}

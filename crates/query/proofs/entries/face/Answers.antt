@@ -1,6 +1,5 @@
 use Rattle.query.specs.Entries.{read_face}
 use Rattle.query.proofs.Ends.{stops, goes, ends}
-use borrow.Author.Rules.{rules}
 use Rattle.query.proofs.entries.face.Goals as goal
 
 pub returns-then-held-ne0 : goal.returns-then-held-ne0

@@ -3,7 +3,6 @@ use Rattle.query.specs.Fields.{counted}
 use Rattle.query.specs.Entries.{read_family}
 use Rattle.query.proofs.Ends.{stops, goes, ends}
 use Rattle.query.proofs.Leaves.{count_read}
-use borrow.Author.Rules.{rules}
 use Rattle.query.proofs.entries.family.Goals as goal
 
 pub returns-then-count-ne0 : goal.returns-then-count-ne0

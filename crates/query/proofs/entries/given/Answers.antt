@@ -4,7 +4,6 @@ use Rattle.font.proofs.Classes.{lowest}
 use Rattle.query.specs.Entries.{read_given, read_width, read_weight}
 use Rattle.query.proofs.Ends.{stops, goes, ends}
 use Rattle.query.proofs.Leaves.{or_spare_ends}
-use borrow.Author.Rules.{rules}
 use Rattle.query.proofs.entries.given.Goals as goal
 
 pub returns-then-width-ne0 : goal.returns-then-width-ne0

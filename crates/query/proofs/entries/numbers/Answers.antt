@@ -3,7 +3,6 @@ use native.Mathlib.Omega.{arith}
 use Rattle.query.specs.Fields.{byte_counted}
 use Rattle.query.proofs.Ends.{stops, goes, got_there}
 use Rattle.query.proofs.Leaves.{byte_read}
-use borrow.Author.Rules.{rules}
 use Rattle.query.proofs.entries.numbers.Goals as goal
 
 pub returns-then-count-ne0 : goal.returns-then-count-ne0

@@ -1,7 +1,6 @@
 use mathlib.Core.Path.{◌∙◌}
 use Rattle.query.specs.Items.{read_item}
 use Rattle.query.proofs.Ends.{met}
-use borrow.Author.Rules.{rules}
 use Rattle.query.proofs.entries.one.Goals as goal
 
 pub returns-in-Pair : goal.returns-in-Pair

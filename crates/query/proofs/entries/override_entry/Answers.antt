@@ -2,7 +2,6 @@ use mathlib.Core.Path.{sym, ◌∙◌}
 use Rattle.query.specs.Entries.{read_override}
 use Rattle.query.proofs.Ends.{stops, goes, ends}
 use Rattle.query.proofs.Leaves.{mask_read}
-use borrow.Author.Rules.{rules}
 use Rattle.query.proofs.entries.override_entry.Goals as goal
 
 pub returns-then-face-ne0 : goal.returns-then-face-ne0

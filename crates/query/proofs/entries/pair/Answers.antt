@@ -1,6 +1,5 @@
 use Rattle.query.specs.Entries.{read_pair}
 use Rattle.query.proofs.Ends.{stops, goes, ends}
-use borrow.Author.Rules.{rules}
 use Rattle.query.proofs.entries.pair.Goals as goal
 
 pub returns-then-tag-ne0 : goal.returns-then-tag-ne0

@@ -2,7 +2,6 @@ use mathlib.Core.Path.{sym, ◌∙◌}
 use Rattle.query.specs.Fields.{byte_counted}
 use Rattle.query.proofs.Ends.{stops, goes}
 use Rattle.query.proofs.Leaves.{byte_read}
-use borrow.Author.Rules.{rules}
 use Rattle.query.proofs.entries.pairs.Goals as goal
 
 pub returns-then-count-ne0 : goal.returns-then-count-ne0

@@ -1,6 +1,5 @@
 use Rattle.query.specs.Entries.{read_request}
 use Rattle.query.proofs.Ends.{stops, goes, ends}
-use borrow.Author.Rules.{rules}
 use Rattle.query.proofs.entries.request.Goals as goal
 
 pub returns-then-most-ne0 : goal.returns-then-most-ne0

@@ -1,6 +1,5 @@
 use Rattle.query.specs.Entries.{read_requested}
 use Rattle.query.proofs.Ends.{stops, goes, ends}
-use borrow.Author.Rules.{rules}
 use Rattle.query.proofs.entries.requested.Goals as goal
 
 pub returns-then-width-ne0 : goal.returns-then-width-ne0

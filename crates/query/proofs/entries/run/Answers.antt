@@ -1,11 +1,8 @@
 use Prim.Native.Nat.{◌≤◌, ◌<◌}
-use mathlib.Core.Path.{◌≡◌, refl, ◌∙◌}
+use mathlib.Core.Path.{refl, ◌∙◌}
 use native.Mathlib.Omega.{arith}
-use Rattle.query.specs.Reader.{ended, many}
-use Rattle.query.specs.Items.{read_item}
 use Rattle.query.proofs.Ends.{many_stops, many_over}
 use Rattle.query.proofs.Leaves.{item_ends, item_goes}
-use borrow.Author.Rules.{rules}
 use Rattle.query.proofs.entries.run.Goals as goal
 
 pub loop-left-init : goal.loop-left-init

@@ -4,7 +4,6 @@ use lib.Dec.{eqb}
 use Rattle.query.specs.Entries.{read_style, read_angle}
 use Rattle.query.proofs.Ends.{stops, goes, ends}
 use Rattle.query.proofs.Leaves.{kind_read, or_spare_ends}
-use borrow.Author.Rules.{rules}
 use Rattle.query.proofs.entries.style.Goals as goal
 
 pub returns-then-kind-ne0 : goal.returns-then-kind-ne0

@@ -1,6 +1,5 @@
 use Rattle.query.specs.Entries.{style_or_spare}
 use Rattle.query.proofs.Ends.{stops, goes, ends}
-use borrow.Author.Rules.{rules}
 use Rattle.query.proofs.entries.style_or_spare.Goals as goal
 
 pub returns-then-given : goal.returns-then-given

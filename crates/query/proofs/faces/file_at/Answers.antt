@@ -9,7 +9,6 @@ use lib.Seq.{take_all, take-nil, drop-length}
 use borrow.Author.Tests.{leb-true, leb-false}
 use Rattle.query.specs.Sizes.{face_head}
 use Rattle.query.specs.Values.{file_at}
-use borrow.Author.Rules.{rules}
 use Rattle.query.proofs.faces.file_at.Goals as goal
 
 held_part : (s : List ℕ) (a n b e : ℕ) → b ≡ min a (length s) → e ≡ min (b + n) (length s)

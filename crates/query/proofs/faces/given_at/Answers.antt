@@ -15,7 +15,6 @@ use Rattle.font.specs.declared.overrides.WeightOverride.TheVariants as Weight
 use Rattle.font.specs.StatedAttributes.{bit}
 use Rattle.font.proofs.Classes.{lowest}
 use Rattle.query.specs.Values.{number_at, style_at, given_at}
-use borrow.Author.Rules.{rules}
 use Rattle.query.proofs.faces.given_at.Goals as goal
 
 -- the code tests the bits of the mask by division

@@ -1,16 +1,9 @@
-use Prim.Native.Nat.{ℕ, ◌+◌, ◌*◌, ◌-◌, ◌≤◌}
 use mathlib.Core.Path.{◌≡◌, sym, ap, ◌∙◌}
-use mathlib.Core.List.{List}
-use mathlib.Core.Logic.{⊎_elim}
 use native.Mathlib.Omega.{arith}
-use borrow.Author.Rules.{rules}
 use Rattle.font.specs.declared.font.FontInfo.{FontInfo}
-use Rattle.query.specs.Reader.{many}
-use Rattle.query.specs.Entries.{Override, read_override}
-use Rattle.query.specs.Positions.{LiesAt}
 use Rattle.query.specs.Values.{override_at}
 use Rattle.query.specs.View.{after_overrides}
-use Rattle.query.proofs.OverridesLeft.{Left, all_left, one_passed, none_left}
+use Rattle.query.proofs.OverridesLeft.{all_left, one_passed, none_left}
 use Rattle.query.proofs.OverriddenFaces.{after_one_of, named, not_named, one_count}
 use Rattle.query.proofs.faces.overridden.Invariants.{after}
 use Rattle.query.proofs.faces.overridden.Goals as goal
@@ -41,8 +34,8 @@ loop-i-preserved c =
     let face = c.u16_at.ensures in
     let one : c.if-u16_at-number.changed ≡ after_one_of o start.number c.loop-i.changed =
     elim c.if-u16_at-number.branch [
-      then-u16_at-number w ↦ w.changed-is ∙ w.override_face-next.ensures ∙ named o start.number c.loop-i.changed (sym face ∙ w.if-u16_at-number.true)
-    | else-u16_at-number w ↦ w.changed-is ∙ not_named o start.number c.loop-i.changed (λ e. w.if-u16_at-number.false (face ∙ e))
+      | then-u16_at-number w ↦ w.changed-is ∙ w.override_face-next.ensures ∙ named o start.number c.loop-i.changed (sym face ∙ w.if-u16_at-number.true)
+      | else-u16_at-number w ↦ w.changed-is ∙ not_named o start.number c.loop-i.changed (λ e. w.if-u16_at-number.false (face ∙ e))
     ] in (
       omega arith,
       omega (arith, c.override_end-place.ensures.1),

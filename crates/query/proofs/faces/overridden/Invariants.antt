@@ -1,17 +1,11 @@
 use Prim.Native.Nat.{ℕ, ◌+◌, ◌*◌, ◌-◌, ◌≤◌}
-use mathlib.Core.Path.{◌≡◌, sym, ap, ◌∙◌}
 use mathlib.Core.List.{List}
-use mathlib.Core.Logic.{⊎_elim}
-use native.Mathlib.Omega.{arith}
-use borrow.Author.Rules.{rules}
 use Rattle.font.specs.declared.font.FontInfo.{FontInfo}
 use Rattle.query.specs.Reader.{many}
 use Rattle.query.specs.Entries.{Override, read_override}
 use Rattle.query.specs.Positions.{LiesAt}
-use Rattle.query.specs.Values.{override_at}
 use Rattle.query.specs.View.{after_overrides}
-use Rattle.query.proofs.OverridesLeft.{Left, all_left, one_passed, none_left}
-use Rattle.query.proofs.OverriddenFaces.{after_one_of, named, not_named, one_count}
+use Rattle.query.proofs.OverridesLeft.{Left}
 use Rattle.query.proofs.faces.overridden.Given as goal
 
 abbrev pub after : ℕ → List Override → FontInfo → FontInfo

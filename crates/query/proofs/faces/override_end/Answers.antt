@@ -1,6 +1,5 @@
 use native.Mathlib.Omega.{arith}
 use Rattle.query.specs.Values.{override_end}
-use borrow.Author.Rules.{rules}
 use Rattle.query.proofs.faces.override_end.Goals as goal
 
 pub returns : goal.returns

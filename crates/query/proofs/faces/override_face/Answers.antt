@@ -1,5 +1,4 @@
 use Rattle.query.proofs.OverriddenFaces.{face_overridden}
-use borrow.Author.Rules.{rules}
 use Rattle.query.proofs.faces.override_face.Goals as goal
 
 pub returns : goal.returns

@@ -1,4 +1,3 @@
-use borrow.Author.Rules.{rules}
 use Rattle.query.proofs.faces.style_given.Goals as goal
 
 pub returns-then-given : goal.returns-then-given

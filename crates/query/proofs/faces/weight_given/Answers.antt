@@ -1,7 +1,6 @@
 use mathlib.Core.Path.{ap}
 use lib.Ieee.{Float}
 use Rattle.font.specs.declared.overrides.WeightOverride.TheVariants as Weight
-use borrow.Author.Rules.{rules}
 use Rattle.query.proofs.faces.weight_given.Goals as goal
 
 pub returns-then-given : goal.returns-then-given

@@ -1,7 +1,6 @@
 use mathlib.Core.Path.{ap}
 use lib.Ieee.{Float}
 use Rattle.font.specs.declared.overrides.WidthOverride.TheVariants as Width
-use borrow.Author.Rules.{rules}
 use Rattle.query.proofs.faces.width_given.Goals as goal
 
 pub returns-then-given : goal.returns-then-given

@@ -1,7 +1,6 @@
-use Prim.Native.Nat.{ℕ, ◌-◌, ◌≤◌}
+use Prim.Native.Nat.{ℕ}
 use mathlib.Core.Path.{◌≡◌, sym, ap, ◌∙◌}
 use native.Mathlib.Omega.{arith}
-use borrow.Author.Rules.{rules}
 use Rattle.font.specs.Overrides.{with_axes, with_defaults}
 use Rattle.font.proofs.Defaults.{no_pairs}
 use Rattle.query.specs.Values.{pairs_at}

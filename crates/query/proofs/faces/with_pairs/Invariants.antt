@@ -1,12 +1,7 @@
-use Prim.Native.Nat.{ℕ, ◌-◌, ◌≤◌}
-use mathlib.Core.Path.{◌≡◌, sym, ap, ◌∙◌}
-use native.Mathlib.Omega.{arith}
-use borrow.Author.Rules.{rules}
-use Rattle.font.specs.Overrides.{with_axes, with_defaults}
-use Rattle.font.proofs.Defaults.{no_pairs}
+use Prim.Native.Nat.{◌-◌, ◌≤◌}
+use mathlib.Core.Path.{◌≡◌}
 use Rattle.query.specs.Values.{pairs_at}
 use Rattle.query.specs.CallTables.{after_pairs}
-use Rattle.query.proofs.OverriddenFaces.{more_pairs}
 use Rattle.query.proofs.faces.with_pairs.Given as goal
 
 abbrev pub invariant-loop-k : goal.invariant-loop-k

@@ -10,7 +10,6 @@ use Rattle.query.specs.Offers.{pick}
 use Rattle.query.specs.Listed.{default_offered, default_offers}
 use Rattle.query.proofs.Picked.{pick_past}
 use Rattle.query.proofs.FamilyLists.{offered_in}
-use borrow.Author.Rules.{rules}
 use Rattle.query.proofs.families.default_offer.Goals as goal
 
 -- what is offered behind the held equal faces

@@ -8,7 +8,6 @@ use Rattle.query.specs.CallTables.{held_row}
 use Rattle.query.specs.Listed.{members_at, offers_at}
 use Rattle.query.proofs.Members.{members_part, places_there}
 use Rattle.query.proofs.FamilyLists.{none_offered}
-use borrow.Author.Rules.{rules}
 use Rattle.query.proofs.families.entry_offer.Goals as goal
 
 pub returns-then-count-eq0 : goal.returns-then-count-eq0

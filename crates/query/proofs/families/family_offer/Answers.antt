@@ -11,7 +11,6 @@ use Rattle.query.specs.Offers.{pick, keep, family_offers}
 use Rattle.query.specs.CallTables.{held_row}
 use Rattle.query.specs.Listed.{default_offers}
 use Rattle.query.proofs.FamilyLists.{held_first, default_offers_lem, after_equal, then_rest}
-use borrow.Author.Rules.{rules}
 use Rattle.query.proofs.families.family_offer.Goals as goal
 
 -- the offers of the family, from what its held equal faces answer

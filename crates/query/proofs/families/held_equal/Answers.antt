@@ -1,9 +1,6 @@
 -- The invariant: of the number is left what the held equal places passed have not used up.
-use Prim.Native.Nat.{ℕ, ◌+◌, ◌-◌, ◌≤◌}
 use mathlib.Core.Path.{◌≡◌, refl, sym, ◌∙◌, ap}
-use mathlib.Core.Logic.{⊎_elim}
-use mathlib.Core.Bool.{Bool, true, false, ◌&&◌}
-use mathlib.Core.List.{List}
+use mathlib.Core.Bool.{true, false, ◌&&◌}
 use native.Mathlib.Omega.{arith}
 use lib.ListN.{length}
 use Rattle.matching.specs.Below.{places_below}
@@ -15,7 +12,6 @@ use Rattle.query.specs.Offers.{pick}
 use Rattle.query.specs.CallTables.{is_held, held_row}
 use Rattle.query.proofs.Picked.{pick_past}
 use Rattle.query.proofs.KeptPlaces.{equal_kept, none_kept, nth_place}
-use borrow.Author.Rules.{rules}
 use Rattle.query.proofs.families.held_equal.Invariants.{equal}
 use Rattle.query.proofs.families.held_equal.Goals as goal
 use Rattle.query.proofs.families.held_equal.Goals.{else-is_held, then-is_held+else-same_face, then-is_held+then-same_face+else-left-eq0}

@@ -1,20 +1,12 @@
 use Prim.Native.Nat.{ℕ, ◌+◌, ◌-◌, ◌≤◌}
-use mathlib.Core.Path.{◌≡◌, refl, sym, ◌∙◌, ap}
-use mathlib.Core.Logic.{⊎_elim}
-use mathlib.Core.Bool.{Bool, true, false, ◌&&◌}
+use mathlib.Core.Path.{◌≡◌}
+use mathlib.Core.Bool.{Bool, ◌&&◌}
 use mathlib.Core.List.{List}
-use native.Mathlib.Omega.{arith}
 use lib.ListN.{length}
 use Rattle.matching.specs.Below.{places_below}
 use Rattle.matching.specs.Order.{same_face}
-use Rattle.matching.specs.Rows.{face_of_row, place_row, family_of_rows}
-use Rattle.matching.proofs.Listed.{placed, passed, longer}
-use Rattle.query.specs.declared.families.FamilyOffer.TheVariants.{Place, Left}
-use Rattle.query.specs.Offers.{pick}
-use Rattle.query.specs.CallTables.{is_held, held_row}
-use Rattle.query.proofs.Picked.{pick_past}
-use Rattle.query.proofs.KeptPlaces.{equal_kept, none_kept, nth_place}
-use borrow.Author.Rules.{rules}
+use Rattle.matching.specs.Rows.{face_of_row, place_row}
+use Rattle.query.specs.CallTables.{held_row}
 use Rattle.query.proofs.families.held_equal.Given as goal
 
 abbrev pub equal : List (List ℕ) → List ℕ → ℕ → ℕ → Bool

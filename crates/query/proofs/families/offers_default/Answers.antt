@@ -6,7 +6,6 @@ use Rattle.matching.specs.Order.{same_face}
 use Rattle.matching.specs.Rows.{face_of_row}
 use Rattle.query.specs.CallTables.{is_held, held_row}
 use Rattle.query.specs.Listed.{default_offered}
-use borrow.Author.Rules.{rules}
 use Rattle.query.proofs.families.offers_default.Goals as goal
 
 pub returns-then-count-default : goal.returns-then-count-default

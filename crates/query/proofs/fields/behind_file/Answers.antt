@@ -1,6 +1,5 @@
 use mathlib.Core.Path.{sym}
 use Rattle.query.specs.Values.{number_behind, behind_number}
-use borrow.Author.Rules.{rules}
 use Rattle.query.proofs.fields.behind_file.Goals as goal
 
 pub returns-then-is_collection : goal.returns-then-is_collection

@@ -1,7 +1,6 @@
 use mathlib.Core.Path.{◌∙◌}
 use Rattle.query.specs.Fields.{byte}
 use Rattle.query.proofs.Ends.{field_ends}
-use borrow.Author.Rules.{rules}
 use Rattle.query.proofs.fields.byte.Goals as goal
 
 pub returns : goal.returns

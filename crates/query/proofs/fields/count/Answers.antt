@@ -2,7 +2,6 @@ use mathlib.Core.Path.{◌∙◌}
 use Rattle.query.specs.Reader.{number, over_limit}
 use Rattle.query.specs.Fields.{count, half}
 use Rattle.query.proofs.Ends.{tested_ends}
-use borrow.Author.Rules.{rules}
 use Rattle.query.proofs.fields.count.Goals as goal
 
 pub returns : goal.returns

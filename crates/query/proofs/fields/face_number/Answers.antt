@@ -2,7 +2,6 @@ use mathlib.Core.Path.{◌∙◌}
 use Rattle.query.specs.Reader.{number, no_face}
 use Rattle.query.specs.Fields.{face_number, half}
 use Rattle.query.proofs.Ends.{tested_ends}
-use borrow.Author.Rules.{rules}
 use Rattle.query.proofs.fields.face_number.Goals as goal
 
 pub returns : goal.returns

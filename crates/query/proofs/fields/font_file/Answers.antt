@@ -4,7 +4,6 @@ use Rattle.query.specs.declared.fields.Behind.{Behind}
 use Rattle.query.specs.Fields.{font_file}
 use Rattle.query.proofs.Ends.{stops}
 use Rattle.query.proofs.Fonts.{file_end_lem, header_refused, number_refused, font_taken_lem, font_refused}
-use borrow.Author.Rules.{rules}
 use Rattle.query.proofs.fields.font_file.Goals as goal
 
 pub returns-then-sized-ne0 : goal.returns-then-sized-ne0

@@ -2,7 +2,6 @@ use mathlib.Core.Path.{sym, ◌∙◌}
 use Rattle.query.specs.Reader.{done, ended}
 use Rattle.query.specs.Fields.{font_number}
 use Rattle.query.proofs.Fonts.{number_ends}
-use borrow.Author.Rules.{rules}
 use Rattle.query.proofs.fields.font_number.Goals as goal
 
 pub returns-then-is_collection : goal.returns-then-is_collection

@@ -1,6 +1,5 @@
 use native.Mathlib.Omega.{arith}
 use Rattle.query.proofs.Halves.{halves_fit, halves_past}
-use borrow.Author.Rules.{rules}
 use Rattle.query.proofs.fields.halves.Goals as goal
 
 pub returns-then-fit-count : goal.returns-then-fit-count

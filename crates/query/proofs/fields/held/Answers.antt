@@ -2,7 +2,6 @@ use mathlib.Core.Path.{◌∙◌}
 use Rattle.query.specs.Reader.{number, not_held}
 use Rattle.query.specs.Fields.{held_byte, byte}
 use Rattle.query.proofs.Ends.{tested_ends}
-use borrow.Author.Rules.{rules}
 use Rattle.query.proofs.fields.held.Goals as goal
 
 pub returns : goal.returns

@@ -5,7 +5,6 @@ use lib.ListN.{length}
 use lib.Dec.{ltb}
 use native.Mathlib.Omega.{arith}
 use borrow.Author.Tests.{lt-ltb, le-ltb, ltb-true, ltb-false}
-use borrow.Author.Rules.{rules}
 use Rattle.query.proofs.fields.past.Goals as goal
 
 turned : (n at size : ℕ) → size ≤ n → ltb (n - size) at ≡ ltb n (at + size)

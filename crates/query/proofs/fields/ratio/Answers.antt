@@ -2,7 +2,6 @@ use mathlib.Core.Path.{◌∙◌}
 use Rattle.query.specs.Reader.{number, bad_number}
 use Rattle.query.specs.Fields.{ratio, single}
 use Rattle.query.proofs.Ends.{tested_ends}
-use borrow.Author.Rules.{rules}
 use Rattle.query.proofs.fields.ratio.Goals as goal
 
 pub returns : goal.returns

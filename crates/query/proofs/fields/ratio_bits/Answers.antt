@@ -1,6 +1,5 @@
 use mathlib.Core.Path.{sym, ◌∙◌}
 use Rattle.font.proofs.FiniteBits.{finite_no_nan, ratio_finite}
-use borrow.Author.Rules.{rules}
 use Rattle.query.proofs.fields.ratio_bits.Goals as goal
 
 pub float_from_bits-bits : goal.float_from_bits-bits

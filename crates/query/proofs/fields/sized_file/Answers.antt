@@ -4,7 +4,6 @@ use lib.ListN.{length}
 use native.Mathlib.Omega.{arith}
 use borrow.Author.Tests.{ltb-true, ltb-false}
 use Rattle.query.proofs.Fonts.{past_length, past_font, sized}
-use borrow.Author.Rules.{rules}
 use Rattle.query.proofs.fields.sized_file.Goals as goal
 
 pub returns-then-past : goal.returns-then-past

@@ -2,7 +2,6 @@ use mathlib.Core.Path.{◌∙◌}
 use Rattle.query.specs.Reader.{number, unknown}
 use Rattle.query.specs.Fields.{spare_byte, byte}
 use Rattle.query.proofs.Ends.{tested_ends}
-use borrow.Author.Rules.{rules}
 use Rattle.query.proofs.fields.spare_byte.Goals as goal
 
 pub returns : goal.returns

@@ -4,7 +4,6 @@ use lib.ListN.{length}
 use native.Mathlib.Omega.{arith}
 use borrow.Author.Tests.{le-leb, lt-leb, ltb-true, ltb-false}
 use Rattle.query.specs.Fields.{field_end}
-use borrow.Author.Rules.{rules}
 use Rattle.query.proofs.fields.tested.Goals as goal
 
 pub returns-then-past : goal.returns-then-past

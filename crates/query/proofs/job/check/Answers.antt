@@ -1,6 +1,5 @@
 use native.Mathlib.Omega.{arith}
 use Rattle.query.proofs.Demands.{demands}
-use borrow.Author.Rules.{rules}
 use Rattle.query.proofs.job.check.Goals as goal
 
 pub returns : goal.returns

@@ -1,5 +1,4 @@
 use Rattle.query.proofs.WalkCases.{too_long, to_the_end, not_to_the_end}
-use borrow.Author.Rules.{rules}
 use Rattle.query.proofs.job.walk.Goals as goal
 
 pub returns-then-job-gt-MOST_BYTES : goal.returns-then-job-gt-MOST_BYTES

@@ -1,5 +1,4 @@
 use Rattle.query.proofs.WalkCases.{refused_sections, no_faces, no_overrides, no_families, walked}
-use borrow.Author.Rules.{rules}
 use Rattle.query.proofs.job.whole.Goals as goal
 
 pub returns-then-first-ne0 : goal.returns-then-first-ne0

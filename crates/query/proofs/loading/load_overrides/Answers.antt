@@ -1,7 +1,5 @@
-use Prim.Native.Nat.{◌+◌, ◌*◌, ◌-◌, ◌≤◌}
 use native.Mathlib.Omega.{arith}
-use Rattle.query.proofs.OverriddenRows.{RowsLeft, rows_first, row_changed, no_row, rows_last}
-use borrow.Author.Rules.{rules}
+use Rattle.query.proofs.OverriddenRows.{rows_first, row_changed, no_row, rows_last}
 use Rattle.query.proofs.loading.load_overrides.Goals as goal
 use Rattle.query.proofs.loading.load_overrides.Goals.{then-face-rows, else-face-rows}
 

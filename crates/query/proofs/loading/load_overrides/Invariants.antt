@@ -1,8 +1,5 @@
 use Prim.Native.Nat.{◌+◌, ◌*◌, ◌-◌, ◌≤◌}
-use mathlib.Core.Logic.{⊎_elim}
-use native.Mathlib.Omega.{arith}
-use Rattle.query.proofs.OverriddenRows.{RowsLeft, rows_first, row_changed, no_row, rows_last}
-use borrow.Author.Rules.{rules}
+use Rattle.query.proofs.OverriddenRows.{RowsLeft}
 use Rattle.query.proofs.loading.load_overrides.Given as goal
 
 abbrev pub invariant-loop-i : goal.invariant-loop-i

@@ -1,5 +1,4 @@
 use Rattle.query.specs.CallTables.{row_overridden}
-use borrow.Author.Rules.{rules}
 use Rattle.query.proofs.loading.override_row.Goals as goal
 
 pub returns : goal.returns

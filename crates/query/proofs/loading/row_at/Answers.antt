@@ -10,7 +10,6 @@ use Rattle.matching.specs.Matching.{slnt}
 use Rattle.matching.specs.Rows.{row_of}
 use Rattle.query.specs.Values.{file_at, file_end, number_behind, face_at}
 use Rattle.query.specs.CallTables.{bit_of, marks, attributes_in, axis_in, row_at}
-use borrow.Author.Rules.{rules}
 use Rattle.query.proofs.loading.row_at.Goals as goal
 
 -- the row of what the file's font states

@@ -1,5 +1,4 @@
 use Rattle.query.specs.CallTables.{with_style}
-use borrow.Author.Rules.{rules}
 use Rattle.query.proofs.loading.with_style.Goals as goal
 
 pub returns-in-Set : goal.returns-in-Set

@@ -1,5 +1,4 @@
 use Rattle.query.specs.CallTables.{with_width}
-use borrow.Author.Rules.{rules}
 use Rattle.query.proofs.loading.with_width.Goals as goal
 
 pub returns-in-Set : goal.returns-in-Set

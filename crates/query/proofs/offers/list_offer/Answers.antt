@@ -1,5 +1,5 @@
 -- The invariant: the families before `k` are passed, and `left` is what is left of the number.
-use Prim.Native.Nat.{ℕ, ◌+◌, ◌-◌, ◌≤◌}
+use Prim.Native.Nat.{ℕ, ◌+◌}
 use mathlib.Core.Path.{◌≡◌, refl, sym, ◌∙◌, ap}
 use mathlib.Core.List.{List}
 use native.Mathlib.Omega.{arith}
@@ -8,42 +8,33 @@ use Rattle.query.specs.declared.families.FamilyOffer.{FamilyOffer}
 use Rattle.query.specs.declared.offers.ListOffer.{ListOffer}
 use Rattle.query.specs.Values.{list_at}
 use Rattle.query.specs.Offers.{offer_of}
-use Rattle.query.specs.CallTables.{TablesOf}
-use Rattle.query.specs.Listed.{row_offers, Counted}
+use Rattle.query.specs.Listed.{row_offers}
 use Rattle.query.proofs.Turns.{list_length, list_number, turns, after_one, one_more, no_more}
-use borrow.Author.Rules.{rules}
 use Rattle.query.proofs.offers.list_offer.Goals as goal
 use Rattle.query.proofs.offers.list_offer.Goals.{After-number_offer}
 
-abbrev Start : Type 0
-Start = tie.Start invariant_loop decreases-loop
-
 -- the list, and what its offers answer; and what follows the answer of one family
-abbrev list : Start → List ℕ
+abbrev list : After-number_offer → List ℕ
 list c = list_at c.args.job.now c.args.at
 
-abbrev answer : Start → List ℕ → ℕ → ListOffer
+abbrev answer : After-number_offer → List ℕ → ℕ → ListOffer
 answer c = turns (row_offers c.args.job.now c.args.rows.now c.args.request)
 
-abbrev after : Start → ℕ → List ℕ → FamilyOffer → ListOffer
+abbrev after : After-number_offer → ℕ → List ℕ → FamilyOffer → ListOffer
 after c = after_one (row_offers c.args.job.now c.args.rows.now c.args.request)
 
-abbrev start : After-number_offer → Start
-start c = PLACE:Start
-
 stepped : (c : After-number_offer)
-    → answer (start c) (list (start c)) (start c).args.n
-    ≡ after (start c) c.before.before.u16-at.result (drop (c.before.before.before.before.loop.k + 1) (list (start c))) c.number-offer.result
+    → answer c (list c) c.args.n ≡ after c c.u16_at-family.result (drop (c.loop-k.k + 1) (list c)) c.number_offer.result
 stepped c =
-    let a = (start c).args in
+    let a = c.args in
     let l = c.loop-k in
     let f = c.u16_at-family in
     let numbers = list_length a.job.now a.at in
     l.invariant.2
-    ∙ one_more (row_offers a.job.now a.rows.now a.request) (list (start c)) l.k f.result l.left c.number_offer.result
+    ∙ one_more (row_offers a.job.now a.rows.now a.request) (list c) l.k f.result l.left c.number_offer.result
     (omega arith)
     (f.ensures ∙ sym (list_number a.job.now a.at l.k (omega arith)))
-    c.number_offer.ensures.0
+    c.number_offer.ensures.value
 
 pub loop-k-init : goal.loop-k-init
 loop-k-init c = (omega arith, (c.requires.1, c.requires.2), refl)
@@ -53,13 +44,21 @@ number_offer-requires c = c.loop-k.invariant.1
 
 pub returns-in-Place : goal.returns-in-Place
 unfolding offer_of
-returns-in-Place c = (sym (stepped b ∙ ap (after (start b) _ _) c.in-Place.is), c.number_offer.ensures.1)
+returns-in-Place c =
+    let b = (goal.at.returns-in-Place c).After-number_offer in
+    record { value = sym (stepped b ∙ ap (after b _ _) c.in-Place.is); tables_of = c.number_offer.ensures.tables_of }
 
 pub loop-k-preserved : goal.loop-k-preserved
-loop-k-preserved c = (omega arith, c.number_offer.ensures.1, stepped b ∙ ap (after (start b) _ _) c.in-Left.is)
+loop-k-preserved c =
+    let b = (goal.at.loop-k-preserved c).After-number_offer in
+    (omega arith, c.number_offer.ensures.tables_of, stepped b ∙ ap (after b _ _) c.in-Left.is)
 
 pub returns : goal.returns
 returns c =
+    let a = c.args in
     let l = c.loop-k in
-    let numbers = list_length c.args.job.now c.args.at in
-    (sym (l.invariant.2 ∙ no_more (row_offers c.args.job.now c.args.rows.now c.args.request) (list s) l.k l.left (omega arith)), l.invariant.1)
+    let numbers = list_length a.job.now a.at in
+    record {
+      value = sym (l.invariant.2 ∙ no_more (row_offers a.job.now a.rows.now a.request) (list_at a.job.now a.at) l.k l.left (omega arith));
+      tables_of = l.invariant.1;
+    }

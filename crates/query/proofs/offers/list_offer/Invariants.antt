@@ -1,16 +1,10 @@
-use Prim.Native.Nat.{ℕ, ◌+◌, ◌-◌, ◌≤◌}
-use mathlib.Core.Path.{◌≡◌, refl, sym, ◌∙◌, ap}
-use mathlib.Core.List.{List}
-use native.Mathlib.Omega.{arith}
+use Prim.Native.Nat.{◌-◌, ◌≤◌}
+use mathlib.Core.Path.{◌≡◌}
 use lib.ListN.{drop}
-use Rattle.query.specs.declared.families.FamilyOffer.{FamilyOffer}
-use Rattle.query.specs.declared.offers.ListOffer.{ListOffer}
 use Rattle.query.specs.Values.{list_at}
-use Rattle.query.specs.Offers.{offer_of}
 use Rattle.query.specs.CallTables.{TablesOf}
 use Rattle.query.specs.Listed.{row_offers, Counted}
-use Rattle.query.proofs.Turns.{list_length, list_number, turns, after_one, one_more, no_more}
-use borrow.Author.Rules.{rules}
+use Rattle.query.proofs.Turns.{turns}
 use Rattle.query.proofs.offers.list_offer.Given as goal
 
 abbrev pub invariant-loop-k : goal.invariant-loop-k

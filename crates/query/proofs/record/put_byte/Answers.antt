@@ -3,7 +3,6 @@ use native.Mathlib.Numerals.{add-one}
 use native.Mathlib.Omega.{arith}
 use lib.ListN.{set, take}
 use lib.Seq.{take-suc-set}
-use borrow.Author.Rules.{rules}
 use Rattle.query.proofs.record.put_byte.Goals as goal
 
 pub returns : goal.returns

@@ -4,7 +4,6 @@ use mathlib.Core.List.{[], ◌∷◌}
 use Rattle.query.specs.Layout.{bytes16}
 use Rattle.query.specs.Record.{twos_complement, head_bytes}
 use Rattle.query.proofs.Written.{put_on}
-use borrow.Author.Rules.{rules}
 use Rattle.query.proofs.record.put_head.Goals as goal
 
 pub returns : goal.returns

@@ -3,7 +3,6 @@ use mathlib.Core.List.{[], ◌∷◌, append_assoc}
 use Rattle.query.specs.Layout.{bytes16}
 use Rattle.query.specs.Record.{index_bytes}
 use Rattle.query.proofs.Written.{put_on}
-use borrow.Author.Rules.{rules}
 use Rattle.query.proofs.record.put_index.Goals as goal
 
 pub returns : goal.returns

@@ -6,7 +6,6 @@ use lib.Dec.{T}
 use lib.ListN.{take}
 use Rattle.query.specs.Record.{slot_bytes}
 use Rattle.query.proofs.Written.{then_put}
-use borrow.Author.Rules.{rules}
 use Rattle.query.proofs.record.put_slot.Goals as goal
 
 pub float_to_bits-value : goal.float_to_bits-value

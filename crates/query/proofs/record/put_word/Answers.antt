@@ -4,7 +4,6 @@ use native.Mathlib.Omega.{arith}
 use lib.ListN.{take}
 use Rattle.query.specs.Layout.{bytes32}
 use Rattle.query.proofs.Written.{then_put}
-use borrow.Author.Rules.{rules}
 use Rattle.query.proofs.record.put_word.Goals as goal
 
 pub returns : goal.returns

@@ -1,7 +1,6 @@
 use mathlib.Core.Path.{◌∙◌}
 use Rattle.query.specs.Sections.{read_entry}
 use Rattle.query.proofs.Ends.{met}
-use borrow.Author.Rules.{rules}
 use Rattle.query.proofs.sections.entry.Goals as goal
 
 pub returns-in-Faces : goal.returns-in-Faces

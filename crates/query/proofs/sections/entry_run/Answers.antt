@@ -1,12 +1,7 @@
-use Prim.Native.Nat.{◌-◌}
-use mathlib.Core.Path.{◌≡◌, refl, ◌∙◌}
+use mathlib.Core.Path.{refl, ◌∙◌}
 use native.Mathlib.Omega.{arith}
-use lib.ListN.{length}
-use Rattle.query.specs.Sections.{read_entry}
-use Rattle.query.specs.Positions.{KeptFrom}
 use Rattle.query.proofs.Leaves.{entry_begins}
-use Rattle.query.proofs.NotedEntries.{Passed, started, stopped, onward, finished, kept_on}
-use borrow.Author.Rules.{rules}
+use Rattle.query.proofs.NotedEntries.{started, stopped, onward, finished, kept_on}
 use Rattle.query.proofs.sections.entry_run.Goals as goal
 
 pub loop-i-init : goal.loop-i-init

@@ -1,12 +1,9 @@
 use Prim.Native.Nat.{◌-◌}
-use mathlib.Core.Path.{◌≡◌, refl, ◌∙◌}
-use native.Mathlib.Omega.{arith}
+use mathlib.Core.Path.{◌≡◌}
 use lib.ListN.{length}
 use Rattle.query.specs.Sections.{read_entry}
 use Rattle.query.specs.Positions.{KeptFrom}
-use Rattle.query.proofs.Leaves.{entry_begins}
-use Rattle.query.proofs.NotedEntries.{Passed, started, stopped, onward, finished, kept_on}
-use borrow.Author.Rules.{rules}
+use Rattle.query.proofs.NotedEntries.{Passed}
 use Rattle.query.proofs.sections.entry_run.Given as goal
 
 abbrev pub invariant-loop-i : goal.invariant-loop-i

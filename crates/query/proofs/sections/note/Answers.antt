@@ -1,6 +1,5 @@
 use native.Mathlib.Omega.{arith}
 use Rattle.query.proofs.NotedEntries.{place_noted, not_noted}
-use borrow.Author.Rules.{rules}
 use Rattle.query.proofs.sections.note.Goals as goal
 
 pub returns-then-k-table : goal.returns-then-k-table

@@ -1,6 +1,4 @@
-use Rattle.query.specs.Fields.{count}
 use Rattle.query.proofs.Counted.{no_count, section_read}
-use borrow.Author.Rules.{rules}
 use Rattle.query.proofs.sections.read_section.Goals as goal
 
 pub returns-then-count-ne0 : goal.returns-then-count-ne0

@@ -2,7 +2,6 @@ use mathlib.Core.Path.{◌≡◌, ◌∙◌}
 use lib.Ieee.{Float}
 use Rattle.font.specs.Attributes.{attributes_of}
 use Rattle.font.specs.declared.attributes.FontStyle.{FontStyle}
-use borrow.Author.Rules.{rules}
 use Rattle.query.specs.Values.{attributes_at}
 use Rattle.query.proofs.values.attributes_at.Goals as goal
 

@@ -8,7 +8,6 @@ use Rattle.font.specs.Single.{single}
 use Rattle.font.specs.Tables.{u32_at}
 use Rattle.font.proofs.FiniteBits.{finite_no_nan}
 use Rattle.query.specs.Values.{number_at}
-use borrow.Author.Rules.{rules}
 use Rattle.query.proofs.values.number_at.Goals as goal
 
 -- bits of no number

@@ -5,7 +5,6 @@ use Rattle.font.specs.declared.attributes.Angle.TheVariants.{Degrees}
 use Rattle.font.specs.declared.attributes.FontStyle.TheVariants.{Oblique}
 use Rattle.query.specs.Entries.{style_of_kind}
 use Rattle.query.specs.Values.{style_at}
-use borrow.Author.Rules.{rules}
 use Rattle.query.proofs.values.style_at.Goals as goal
 
 pub returns-then-kind-eq0 : goal.returns-then-kind-eq0

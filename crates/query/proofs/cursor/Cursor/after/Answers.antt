@@ -2,7 +2,6 @@ use mathlib.Core.Path.{refl}
 use Prim.Native.Nat.{◌-◌, ◌^◌}
 use borrow.Author.Tests.{lt-ltb, le-ltb}
 use Rattle.query.specs.Cursor.{after}
-use borrow.Author.Rules.{rules}
 use Rattle.query.proofs.cursor.Cursor.after.Goals as goal
 
 pub returns-then-next-lt4294967295 : goal.returns-then-next-lt4294967295

@@ -4,7 +4,6 @@ use lib.Dec.{eqb}
 use Rattle.query.specs.declared.answer.Answer.{Answer}
 use Rattle.query.specs.Cursor.{after, is_offer, stepped}
 use Rattle.query.proofs.Demands.{demands}
-use borrow.Author.Rules.{rules}
 use Rattle.query.proofs.cursor.Cursor.step.Goals as goal
 
 pub returns : goal.returns
