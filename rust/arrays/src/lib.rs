@@ -2,7 +2,7 @@
 //! choice itself has no array. No other function goes through its stages or ranks.
 //!
 //! What it cannot see: faces that are kept without an array, in a struct of many plain fields or in the bits of numbers;
-//! several of them packed in one entry of the one list; what the compiler copies; callers in other crates than the four
+//! several of them packed in one entry of the one list; what the compiler copies; callers in other crates than the five
 //! that it reads; and a choice in other words, which calls no stage and nothing that ranks.
 
 mod constants;

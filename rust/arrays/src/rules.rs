@@ -32,7 +32,7 @@ const fn entry(path: &'static str, job: bool, request: bool, default: bool) -> E
     }
 }
 
-pub const ENTRIES: [Entry; 7] = [
+pub const ENTRIES: [Entry; 8] = [
     entry("matching::matching::match_font", false, true, false),
     entry("matching::matching::match_fonts", false, true, false),
     entry("matching::family::FamilyInfo::new", false, false, true),
@@ -40,6 +40,7 @@ pub const ENTRIES: [Entry; 7] = [
     entry("query::call::offer_at", true, true, true),
     entry("query::cursor::Cursor::step", true, true, true),
     entry("stemhook::stemhook_offer", true, true, true),
+    entry("stemhook_c::stemhook_offer", true, true, true),
 ];
 
 pub struct Checked {

@@ -3,7 +3,7 @@
 use std::{fs, io, path::Path};
 
 /// The libraries that a choice goes through.
-pub const CRATES: [&str; 4] = ["font", "matching", "query", "stemhook"];
+pub const CRATES: [&str; 5] = ["font", "matching", "query", "stemhook", "stemhook_c"];
 
 #[derive(Clone, Debug, PartialEq, Eq)]
 pub struct Source {
@@ -37,7 +37,7 @@ fn of_crate(root: &Path, name: &str) -> io::Result<Vec<Source>> {
     Ok(sources)
 }
 
-/// The sources of the four libraries, in the order of their names.
+/// The sources of these libraries, in the order of their names.
 pub fn read(root: &Path) -> io::Result<Vec<Source>> {
     let mut all = Vec::new();
     for name in CRATES {

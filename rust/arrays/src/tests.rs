@@ -122,7 +122,7 @@ fn what_was_counted() {
     let choice = lines.iter().find(|l| l.starts_with("choice: "));
     let counted = "4 loops, 0 arrays made, 0 writes of entries, at most 5 entries alive";
     assert!(choice.is_some_and(|l| l.ends_with(counted)), "{choice:?}");
-    let last = "arrays: 7 ways, at most 1 list of 64 beside the family, 0 arrays in the choice";
+    let last = "arrays: 8 ways, at most 1 list of 64 beside the family, 0 arrays in the choice";
     assert_eq!(lines.last().map(String::as_str), Some(last));
 }
 

@@ -72,7 +72,7 @@ fn run(program: &Program, list: &[u8]) -> Result<String, String> {
         .stdout(Stdio::piped())
         .spawn()
         .map_err(|error| {
-            format!("{name} does not start ({error}); `rt check {name}` in the repository's root makes it, STEMHOOK_BIN names its folder")
+            format!("{name} does not start ({error}); `tools/prove check {name}` in the repository's root makes it, STEMHOOK_BIN names its folder")
         })?;
     let mut stdin = child.stdin.take().expect("piped");
     stdin

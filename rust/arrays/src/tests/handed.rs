@@ -28,12 +28,15 @@ fn an_array_in_the_cursor() {
 #[test]
 fn a_list_among_the_parameters_of_a_job() {
     for (of, count) in [("[u8; 64]", 2), ("[[u8; 64]; 2]", 3)] {
-        let new = format!("job: &[u8], seen: {of},");
-        let planted = real().change("stemhook/lib", "stemhook_offer", "job: &[u8],", &new);
-        planted.finds(
-            "query::call::search_with",
-            &format!("{count} lists beside the family: `seen` of stemhook::stemhook_offer"),
-        );
+        for name in ["stemhook", "stemhook_c"] {
+            let new = format!("job: &[u8], seen: {of},");
+            let module = format!("{name}/lib");
+            let planted = real().change(&module, "stemhook_offer", "job: &[u8],", &new);
+            planted.finds(
+                "query::call::search_with",
+                &format!("{count} lists beside the family: `seen` of {name}::stemhook_offer"),
+            );
+        }
     }
 }
 
