@@ -10,7 +10,6 @@ use font::charmap::CharmapIndex;
 use font::font::{AxisInfo, Checked, FontInfo};
 use font::tables;
 use std::io;
-use std::io::Read;
 
 // A byte, and then the 8 hexadecimal digits of a number.
 fn print_word(rt: &impl Print, before: u8, n: u32) -> io::Result<()> {
@@ -140,7 +139,7 @@ fn print_list(rt: &impl Print, list: &[u8]) -> io::Result<()> {
 
 // A list has at most 327,680 bytes: what lies past them is not read.
 fn main(rt: HostRuntime) -> io::Result<()> {
-    let mut list = Vec::new(rt.alloc());
-    rt.reader().take(327680).read_to_end(&mut list)?;
-    print_list(&rt, &list)
+    let mut space = [0u8; 327680];
+    let n = input::read_full(&rt, &mut space)?;
+    print_list(&rt, &space[..n])
 }

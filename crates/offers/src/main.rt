@@ -5,7 +5,6 @@
 use output::lines;
 use std::env::FillError;
 use std::io;
-use std::io::Read;
 use std::rt::Env;
 
 // A number that no reading has.
@@ -37,12 +36,12 @@ fn reading(rt: &impl Env) -> u32 {
 }
 
 fn main(rt: HostRuntime) -> io::Result<()> {
-    let mut job = Vec::new(rt.alloc());
-    rt.reader().take(65537).read_to_end(&mut job)?;
-    if 65536 < job.len() {
+    let mut space = [0u8; 65537];
+    let n = input::read_full(&rt, &mut space)?;
+    if 65536 < n {
         rt.write_all(b"too long\n")
     } else {
-        lines::print_job(&rt, &job, reading(&rt), false)?;
+        lines::print_job(&rt, &space[..n], reading(&rt), false)?;
         Ok(())
     }
 }
