@@ -6,19 +6,20 @@
 // "The list of families". A case that is refused prints `refused N`; the list has none.
 #![tactic(auto)]
 
-ghost use Rattle.std.specs.Prelude.{◌+◌, ◌*◌, ◌^◌, ◌<◌, ◌≤◌};
+ghost use Rattle.std.specs.Prelude.{◌^◌, ◌<◌, ◌≤◌, IfOk};
 
 use font::attributes::{Angle, Attributes, FontStyle, FontWeight, FontWidth};
 use font::charmap::CharmapIndex;
 use font::font::{AxisInfo, FontInfo};
 use font::tables;
-use libc::{STDIN_FILENO, STDOUT_FILENO};
 use matching::face;
 use matching::family::FamilyInfo;
 use matching::matching::Choice;
 use matching::stages::Places;
 use matching::synthesis::Synthesis;
 use output::words;
+use std::io;
+use std::io::Read;
 
 // The charmap index of every face of the list, which has none.
 const NO_INDEX: CharmapIndex = CharmapIndex {
@@ -143,60 +144,64 @@ fn faces_at(s: &[u8], start: usize, count: u8) -> Faces
 // Printing.
 
 // A byte, and then a number.
-fn print_number(before: u8, n: usize) {
+fn print_number(rt: &impl Print, before: u8, n: usize) -> io::Result<()> {
     let lead = [before];
-    io::write_all(STDOUT_FILENO, &lead);
-    io::print_decimal(STDOUT_FILENO, n as u64);
+    rt.write_all(&lead)?;
+    print!(rt; "{n}")
 }
 
-fn print_refused(refusal: u8) {
-    io::write_all(STDOUT_FILENO, b"refused");
-    print_number(b' ', refusal as usize);
+fn print_refused(rt: &impl Print, refusal: u8) -> io::Result<()> {
+    rt.write_all(b"refused")?;
+    print_number(rt, b' ', refusal as usize)
 }
 
-fn print_choice(choice: Choice) {
+fn print_choice(rt: &impl Print, choice: Choice) -> io::Result<()> {
     match choice {
-        Choice::Place(place) => {
-            io::print_decimal(STDOUT_FILENO, place as u64);
-        }
-        Choice::Nothing => {
-            io::write_all(STDOUT_FILENO, b"-");
-        }
-        Choice::Refused(refusal) => print_refused(refusal),
+        Choice::Place(place) => print!(rt; "{place}"),
+        Choice::Nothing => rt.write_all(b"-"),
+        Choice::Refused(refusal) => print_refused(rt, refusal),
     }
 }
 
 // The places, joined by commas.
-fn print_places(places: [usize; 64], count: usize) {
+fn print_places(rt: &impl Print, places: [usize; 64], count: usize) -> io::Result<()> {
     if count == 0 {
-        io::write_all(STDOUT_FILENO, b" -");
-        return;
+        return rt.write_all(b" -");
     }
-    print_number(b' ', places[0]);
+    print_number(rt, b' ', places[0])?;
     let mut i: usize = 1;
     while i < 64 {
         if count <= i {
-            return;
+            return Ok(());
         }
-        print_number(b',', places[i]);
+        print_number(rt, b',', places[i])?;
         i += 1;
     }
+    Ok(())
 }
 
-fn print_synthesis(synthesis: Synthesis) {
-    io::write_all(STDOUT_FILENO, &words::embolden_word(synthesis.embolden));
-    words::print_skew(synthesis.skew);
-    words::print_settings(synthesis);
+fn print_synthesis(rt: &impl Print, synthesis: Synthesis) -> io::Result<()> {
+    rt.write_all(&words::embolden_word(synthesis.embolden))?;
+    words::print_skew(rt, synthesis.skew)?;
+    words::print_settings(rt, synthesis)?;
+    Ok(())
 }
 
-fn print_line(choice: Choice, list: Places, default: usize, old: Synthesis, new: Synthesis) {
+fn print_line(
+    rt: &impl Print,
+    choice: Choice,
+    list: Places,
+    default: usize,
+    old: Synthesis,
+    new: Synthesis,
+) -> io::Result<()> {
     let places = list.places;
-    print_choice(choice);
-    print_places(places, list.count);
-    print_number(b' ', default);
-    print_synthesis(old);
-    io::write_all(STDOUT_FILENO, b" |");
-    print_synthesis(new);
+    print_choice(rt, choice)?;
+    print_places(rt, places, list.count)?;
+    print_number(rt, b' ', default)?;
+    print_synthesis(rt, old)?;
+    rt.write_all(b" |")?;
+    print_synthesis(rt, new)
 }
 
 // Answers.
@@ -234,7 +239,13 @@ fn first_refusal(a: u8, b: u8) -> u8 {
 }
 
 // The line of a case, without its end.
-fn print_answers(fonts: [FontInfo; 64], count: usize, request: Attributes, synthesize_style: bool) {
+fn print_answers(
+    rt: &impl Print,
+    fonts: [FontInfo; 64],
+    count: usize,
+    request: Attributes,
+    synthesize_style: bool,
+) -> io::Result<()> {
     let width = request.width;
     let style = request.style;
     let weight = request.weight;
@@ -262,35 +273,36 @@ fn print_answers(fonts: [FontInfo; 64], count: usize, request: Attributes, synth
     let refusal = first_refusal(chosen, first_refusal(old.refusal, new.refusal));
     if refusal == 0 {
         let list = matches.list;
-        print_line(choice, list, family.default_font, old, new);
+        print_line(rt, choice, list, family.default_font, old, new)
     } else {
-        print_refused(refusal);
+        print_refused(rt, refusal)
     }
 }
 
 // The line of the case that the bytes start with. Answers how many bytes the case takes.
-fn print_case(case: &[u8]) -> usize
-    ensures { (15 ≤ result) × (result < 2 ^ 21) }
+fn print_case(rt: &impl Print, case: &[u8]) -> io::Result<usize>
+    ensures { IfOk result (λ n. (15 ≤ n) × (n < 2 ^ 21)) }
 {
     let request = attributes_at(case, 1);
     let count = byte_at(case, 14);
     let faces = faces_at(case, 15, count);
     let fonts = faces.fonts;
-    print_answers(fonts, count as usize, request, byte_at(case, 0) != 0);
-    io::write_all(STDOUT_FILENO, b"\n");
-    faces.end
+    print_answers(rt, fonts, count as usize, request, byte_at(case, 0) != 0)?;
+    rt.write_all(b"\n")?;
+    Ok(faces.end)
 }
 
-fn print_list(list: &[u8]) {
+fn print_list(rt: &impl Print, list: &[u8]) -> io::Result<()> {
     let mut at: usize = 0;
     while at < list.len() {
-        at += print_case(&list[at..]);
+        at += print_case(rt, &list[at..])?;
     }
+    Ok(())
 }
 
 // A list has at most 600,000 bytes: what lies past them is not read.
-fn main() {
-    let mut space = [0u8; 600000];
-    let n = io::read_full(STDIN_FILENO, &mut space);
-    print_list(&space[..n]);
+fn main(rt: HostRuntime) -> io::Result<()> {
+    let mut list = Vec::new(rt.alloc());
+    rt.reader().take(600000).read_to_end(&mut list)?;
+    print_list(&rt, &list)
 }

@@ -6,35 +6,37 @@
 // are compared with the original's where it has any. `rust/README.md` says what both hold, in "The list of jobs".
 #![tactic(auto)]
 
-ghost use Rattle.std.specs.Prelude.{◌^◌, ◌<◌, ◌≤◌};
+ghost use Rattle.std.specs.Prelude.{◌^◌, ◌<◌, ◌≤◌, IfOk};
 
 use font::tables;
-use libc::STDIN_FILENO;
 use output::lines;
+use std::io;
+use std::io::Read;
 
 // The lines of the job that the bytes start with. Answers how many bytes it takes, with its length.
-fn print_case(list: &[u8]) -> usize
-    ensures { (4 ≤ result) × (result < 2 ^ 33) }
+fn print_case(rt: &impl Print, list: &[u8]) -> io::Result<usize>
+    ensures { IfOk result (λ n. (4 ≤ n) × (n < 2 ^ 33)) }
 {
     let end = 4 + tables::u32_at(list, 0) as usize;
     if end <= list.len() {
         let job = &list[4..end];
-        lines::print_job(job, 0, true);
-        lines::print_job(job, 1, true);
+        lines::print_job(rt, job, 0, true)?;
+        lines::print_job(rt, job, 1, true)?;
     }
-    end
+    Ok(end)
 }
 
-fn print_list(list: &[u8]) {
+fn print_list(rt: &impl Print, list: &[u8]) -> io::Result<()> {
     let mut at: usize = 0;
     while at < list.len() {
-        at += print_case(&list[at..]);
+        at += print_case(rt, &list[at..])?;
     }
+    Ok(())
 }
 
 // A list has at most 600,000 bytes: what lies past them is not read.
-fn main() {
-    let mut space = [0u8; 600000];
-    let n = io::read_full(STDIN_FILENO, &mut space);
-    print_list(&space[..n]);
+fn main(rt: HostRuntime) -> io::Result<()> {
+    let mut list = Vec::new(rt.alloc());
+    rt.reader().take(600000).read_to_end(&mut list)?;
+    print_list(&rt, &list)
 }

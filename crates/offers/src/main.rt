@@ -2,8 +2,10 @@
 // its one word names, `offers 0` or `offers 1`.
 #![tactic(auto)]
 
-use libc::{STDIN_FILENO, STDOUT_FILENO};
 use output::lines;
+use std::env::FillError;
+use std::io;
+use std::rt::Env;
 
 // A number that no reading has.
 const NO_READING: u32 = 2;
@@ -18,14 +20,14 @@ fn reading_of(word: u8) -> u32 {
 }
 
 // The reading that the program was started with. Any other word, and more than one, names none.
-fn reading() -> u32 {
-    let words = os::arg_count();
-    if words < 2 {
-        return 0;
-    }
+fn reading(rt: &impl Env) -> u32 {
     let mut word = [0u8; 1];
-    let length = os::arg(1, &mut word);
-    if words == 2 {
+    let length = match rt.arg(1, &mut word) {
+        Ok(length) => length,
+        Err(FillError::NotPresent) => return 0,
+        Err(FillError::TooLong) => return NO_READING,
+    };
+    if let Err(FillError::NotPresent) = rt.arg(2, &mut []) {
         if length == 1 {
             return reading_of(word[0]);
         }
@@ -33,12 +35,13 @@ fn reading() -> u32 {
     NO_READING
 }
 
-fn main() {
+fn main(rt: HostRuntime) -> io::Result<()> {
     let mut space = [0u8; 65537];
-    let n = io::read_full(STDIN_FILENO, &mut space);
+    let n = input::read_full(&rt, &mut space)?;
     if 65536 < n {
-        io::write_all(STDOUT_FILENO, b"too long\n");
+        rt.write_all(b"too long\n")
     } else {
-        lines::print_job(&space[..n], reading(), false);
+        lines::print_job(&rt, &space[..n], reading(&rt), false)?;
+        Ok(())
     }
 }

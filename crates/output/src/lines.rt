@@ -1,15 +1,15 @@
 // The lines of a job, written to standard output.
-ghost use Rattle.std.specs.Prelude.{◌≡◌};
+ghost use Rattle.std.specs.Prelude.{◌≡◌, IfOk};
 ghost use Rattle.output.specs.Lines.{checked_under};
 
 use crate::words;
 use font::charmap::CharmapIndex;
 use font::slant;
-use libc::STDOUT_FILENO;
 use query::answer::Answer;
 use query::cursor::Cursor;
 use query::job::Checked;
 use query::{call, job};
+use std::io;
 
 // The most requests that a job has.
 const MOST_REQUESTS: u32 = 256;
@@ -18,56 +18,63 @@ const MOST_REQUESTS: u32 = 256;
 const PAST_MOST: u32 = 65536;
 
 // A blank, and then a number.
-fn print_number(n: u64) {
-    io::write_all(STDOUT_FILENO, b" ");
-    io::print_decimal(STDOUT_FILENO, n);
+fn print_number(rt: &impl Print, n: u64) -> io::Result<()> {
+    rt.write_all(b" ")?;
+    print!(rt; "{n}")
 }
 
-fn print_flag(on: bool) {
+fn print_flag(rt: &impl Print, on: bool) -> io::Result<()> {
     if on {
-        io::write_all(STDOUT_FILENO, b" 1");
+        rt.write_all(b" 1")
     } else {
-        io::write_all(STDOUT_FILENO, b" 0");
+        rt.write_all(b" 0")
     }
 }
 
 // The charmap index: the offset, and whether it is a symbol or a Mac Roman record.
-fn print_index(index: CharmapIndex) {
-    print_number(index.subtable_offset as u64);
-    print_flag(index.is_symbol);
-    print_flag(index.is_mac_roman);
+fn print_index(rt: &impl Print, index: CharmapIndex) -> io::Result<()> {
+    print_number(rt, index.subtable_offset as u64)?;
+    print_flag(rt, index.is_symbol)?;
+    print_flag(rt, index.is_mac_roman)
 }
 
 // The line of an offer.
-fn print_offer(request: u32, answer: Answer, indexed: bool) {
+fn print_offer(rt: &impl Print, request: u32, answer: Answer, indexed: bool) -> io::Result<()> {
     let offer = answer.offer;
     let synthesis = answer.synthesis;
-    io::print_decimal(STDOUT_FILENO, request as u64);
-    print_number(offer.family as u64);
-    print_number(offer.place as u64);
-    io::write_all(STDOUT_FILENO, &words::embolden_word(synthesis.embolden));
-    words::print_skew(synthesis.skew);
+    print!(rt; "{request}")?;
+    print_number(rt, offer.family as u64)?;
+    print_number(rt, offer.place as u64)?;
+    rt.write_all(&words::embolden_word(synthesis.embolden))?;
+    words::print_skew(rt, synthesis.skew)?;
     if indexed {
-        print_index(answer.charmap_index);
+        print_index(rt, answer.charmap_index)?;
     }
-    words::print_settings(synthesis);
-    io::write_all(STDOUT_FILENO, b"\n");
+    words::print_settings(rt, synthesis)?;
+    rt.write_all(b"\n")
 }
 
 // The lines of a request: a fresh cursor is stepped to the end of the list.
-fn print_request(job: &[u8], reading: u32, request: u32, indexed: bool) {
+fn print_request(
+    rt: &impl Print,
+    job: &[u8],
+    reading: u32,
+    request: u32,
+    indexed: bool,
+) -> io::Result<()> {
     let mut cursor = Cursor::new(request);
     let mut n: u32 = 0;
     while n < PAST_MOST {
         let step = cursor.step(job, reading);
         let answer = step.answer;
         if answer.result != 0 {
-            return;
+            return Ok(());
         }
-        print_offer(request, answer, indexed);
+        print_offer(rt, request, answer, indexed)?;
         cursor = step.cursor;
         n += 1;
     }
+    Ok(())
 }
 
 // Whether an accepted job has the request: 28 says that it has not.
@@ -87,12 +94,19 @@ fn request_count(job: &[u8]) -> u32 {
     MOST_REQUESTS
 }
 
-fn print_requests(job: &[u8], reading: u32, count: u32, indexed: bool) {
+fn print_requests(
+    rt: &impl Print,
+    job: &[u8],
+    reading: u32,
+    count: u32,
+    indexed: bool,
+) -> io::Result<()> {
     let mut request: u32 = 0;
     while request < count {
-        print_request(job, reading, request, indexed);
+        print_request(rt, job, reading, request, indexed)?;
         request += 1;
     }
+    Ok(())
 }
 
 // What the check call answers; where there is no such reading, the offer call's refusal, which is of no field.
@@ -111,21 +125,21 @@ fn checked_under(job: &[u8], reading: u32) -> Checked
 
 // Prints what section 7's program prints for a job under a reading, and where `indexed` the charmap index of each offer
 // after its skew. Answers whether the job was refused, and where.
-pub fn print_job(job: &[u8], reading: u32, indexed: bool) -> Checked
-    ensures { result ≡ checked_under job.now reading }
+pub fn print_job(rt: &impl Print, job: &[u8], reading: u32, indexed: bool) -> io::Result<Checked>
+    ensures { IfOk result (λ checked. checked ≡ checked_under job.now reading) }
 {
     let checked = checked_under(job, reading);
     if checked.refusal == 0 {
         let count = request_count(job);
-        io::write_all(STDOUT_FILENO, b"requests");
-        print_number(count as u64);
-        io::write_all(STDOUT_FILENO, b"\n");
-        print_requests(job, reading, count, indexed);
+        rt.write_all(b"requests")?;
+        print_number(rt, count as u64)?;
+        rt.write_all(b"\n")?;
+        print_requests(rt, job, reading, count, indexed)?;
     } else {
-        io::write_all(STDOUT_FILENO, b"refused");
-        print_number(checked.refusal as u64);
-        print_number(checked.position as u64);
-        io::write_all(STDOUT_FILENO, b"\n");
+        rt.write_all(b"refused")?;
+        print_number(rt, checked.refusal as u64)?;
+        print_number(rt, checked.position as u64)?;
+        rt.write_all(b"\n")?;
     }
-    checked
+    Ok(checked)
 }

@@ -1,9 +1,9 @@
 // The words of a synthesis. No contract can say what is printed: a call that prints answers a number of what it printed.
-ghost use Rattle.std.specs.Prelude.{◌≡◌, min, nat_abs};
+ghost use Rattle.std.specs.Prelude.{◌≡◌, min, nat_abs, IfOk};
 ghost use Rattle.output.specs.Words.{embolden_word};
 
-use libc::STDOUT_FILENO;
 use matching::synthesis::Synthesis;
+use std::io;
 
 // The word of emboldening.
 pub fn embolden_word(on: bool) -> [u8; 2]
@@ -24,17 +24,17 @@ fn magnitude(skew: i8) -> u64
 }
 
 // Prints a skew, and answers its magnitude.
-pub fn print_skew(skew: i8) -> u64
-    ensures { result ≡ nat_abs skew }
+pub fn print_skew(rt: &impl Print, skew: i8) -> io::Result<u64>
+    ensures { IfOk result (λ size. size ≡ nat_abs skew) }
 {
     let size = magnitude(skew);
     if skew < 0 {
-        io::write_all(STDOUT_FILENO, b" -");
+        rt.write_all(b" -")?;
     } else {
-        io::write_all(STDOUT_FILENO, b" ");
+        rt.write_all(b" ")?;
     }
-    io::print_decimal(STDOUT_FILENO, size);
-    size
+    print!(rt; "{size}")?;
+    Ok(size)
 }
 
 // The bits of a value. No setting is a NaN, for which 0 would be printed.
@@ -46,7 +46,7 @@ fn value_bits(value: f32) -> u32 {
 }
 
 // A setting: the tag's four characters, and the bits of the value.
-fn print_setting(tag: u32, value: f32) {
+fn print_setting(rt: &impl Print, tag: u32, value: f32) -> io::Result<()> {
     let text = [
         b' ',
         (tag / 0x100_0000) as u8,
@@ -55,23 +55,24 @@ fn print_setting(tag: u32, value: f32) {
         (tag % 256) as u8,
         b'=',
     ];
-    io::write_all(STDOUT_FILENO, &text);
-    io::print_hex(STDOUT_FILENO, value_bits(value) as u64, 8);
+    rt.write_all(&text)?;
+    let bits = value_bits(value);
+    print!(rt; "{bits:08x}")
 }
 
 // Prints the settings, and answers how many there are.
-pub fn print_settings(synthesis: Synthesis) -> u8
-    ensures { result ≡ min synthesis.len 3 }
+pub fn print_settings(rt: &impl Print, synthesis: Synthesis) -> io::Result<u8>
+    ensures { IfOk result (λ n. n ≡ min synthesis.len 3) }
 {
     let tags = synthesis.tags;
     let values = synthesis.values;
     let mut i: u8 = 0;
     while i < 3 {
         if synthesis.len <= i {
-            return i;
+            return Ok(i);
         }
-        print_setting(tags[i as usize], values[i as usize]);
+        print_setting(rt, tags[i as usize], values[i as usize])?;
         i += 1;
     }
-    3
+    Ok(3)
 }

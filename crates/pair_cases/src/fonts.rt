@@ -4,7 +4,7 @@ ghost use Rattle.std.specs.Prelude.{◌<◌};
 use crate::put;
 use crate::put::Space;
 
-#[derive(Drop)]
+#[derive(Clone, Copy)]
 pub struct Font {
     pub weight: u16,
     // The pair of the cmap record.

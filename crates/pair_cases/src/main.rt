@@ -20,6 +20,7 @@ mod print;
 mod put;
 
 use put::Space;
+use std::io;
 
 const ONE: u32 = 0x3F80_0000;
 
@@ -33,143 +34,143 @@ fn first(space: &[u8], n: usize) -> &[u8] {
     space
 }
 
-fn zeros() {
+fn zeros(rt: &impl Print) -> io::Result<()> {
     let job = [0u8; 9];
-    print::check(b"no bytes", &job[..0]);
-    print::call(&job[..0], 0, 0, 0, 40);
-    print::call(&job[..0], 2, 0, 0, 40);
-    print::check(b"eight zero bytes", &job[..8]);
-    print::call(&job[..8], 0, 0, 0, 40);
-    print::check(b"nine zero bytes", &job);
-    print::call(&job, 0, 0, 0, 40);
-    print::call(&job, 0, 0, 0, 39);
-    print::call(&job, 2, 0, 0, 40);
-    print::call(&job, 2, 0, 0, 39);
+    print::check(rt, b"no bytes", &job[..0])?;
+    print::call(rt, &job[..0], 0, 0, 0, 40)?;
+    print::call(rt, &job[..0], 2, 0, 0, 40)?;
+    print::check(rt, b"eight zero bytes", &job[..8])?;
+    print::call(rt, &job[..8], 0, 0, 0, 40)?;
+    print::check(rt, b"nine zero bytes", &job)?;
+    print::call(rt, &job, 0, 0, 0, 40)?;
+    print::call(rt, &job, 0, 0, 0, 39)?;
+    print::call(rt, &job, 2, 0, 0, 40)?;
+    print::call(rt, &job, 2, 0, 0, 39)
 }
 
 // Outputs of four lengths, then the offers of each request and what lies past them.
-fn small_calls(job: &[u8]) {
-    print::check(b"small", job);
-    print::call(job, 0, 0, 0, 0);
-    print::call(job, 0, 0, 0, 39);
-    print::call(job, 0, 0, 0, 40);
-    print::call(job, 0, 0, 0, 41);
-    print::call(job, 0, 0, 1, 40);
-    print::call(job, 0, 0, 2, 40);
-    print::call(job, 0, 0, 3, 40);
-    print::call(job, 0, 0, 4_294_967_295, 40);
-    print::call(job, 0, 1, 0, 40);
-    print::call(job, 0, 1, 1, 40);
-    print::call(job, 0, 1, 5, 40);
-    print::call(job, 0, 1, 6, 40);
-    print::call(job, 0, 2, 0, 40);
-    print::call(job, 0, 3, 0, 40);
-    print::call(job, 0, 3, 1, 40);
-    print::call(job, 0, 3, 2, 40);
-    print::call(job, 0, 4, 0, 40);
-    print::call(job, 0, 4, 0, 39);
-    print::call(job, 0, 4_294_967_295, 0, 40);
+fn small_calls(rt: &impl Print, job: &[u8]) -> io::Result<()> {
+    print::check(rt, b"small", job)?;
+    print::call(rt, job, 0, 0, 0, 0)?;
+    print::call(rt, job, 0, 0, 0, 39)?;
+    print::call(rt, job, 0, 0, 0, 40)?;
+    print::call(rt, job, 0, 0, 0, 41)?;
+    print::call(rt, job, 0, 0, 1, 40)?;
+    print::call(rt, job, 0, 0, 2, 40)?;
+    print::call(rt, job, 0, 0, 3, 40)?;
+    print::call(rt, job, 0, 0, 4_294_967_295, 40)?;
+    print::call(rt, job, 0, 1, 0, 40)?;
+    print::call(rt, job, 0, 1, 1, 40)?;
+    print::call(rt, job, 0, 1, 5, 40)?;
+    print::call(rt, job, 0, 1, 6, 40)?;
+    print::call(rt, job, 0, 2, 0, 40)?;
+    print::call(rt, job, 0, 3, 0, 40)?;
+    print::call(rt, job, 0, 3, 1, 40)?;
+    print::call(rt, job, 0, 3, 2, 40)?;
+    print::call(rt, job, 0, 4, 0, 40)?;
+    print::call(rt, job, 0, 4, 0, 39)?;
+    print::call(rt, job, 0, 4_294_967_295, 0, 40)
 }
 
-fn small(space: &mut Space) {
+fn small(rt: &impl Print, space: &mut Space) -> io::Result<()> {
     let n = jobs::small(&mut *space, 0, 3, ONE);
-    small_calls(first(&*space, n));
-    slanted_calls(first(&*space, n));
+    small_calls(rt, first(&*space, n))?;
+    slanted_calls(rt, first(&*space, n))
 }
 
 // Offers under reading 1, and readings that there are not.
-fn slanted_calls(job: &[u8]) {
-    print::call(job, 1, 0, 0, 40);
-    print::call(job, 1, 0, 1, 40);
-    print::call(job, 1, 0, 2, 40);
-    print::call(job, 1, 0, 3, 40);
-    print::call(job, 1, 1, 0, 40);
-    print::call(job, 1, 1, 1, 40);
-    print::call(job, 1, 1, 5, 40);
-    print::call(job, 1, 3, 0, 40);
-    print::call(job, 1, 3, 1, 40);
-    print::call(job, 1, 4, 0, 40);
-    print::call(job, 2, 0, 0, 40);
-    print::call(job, 2, 0, 0, 39);
-    print::call(job, 2, 4, 0, 40);
-    print::call(job, 256, 0, 0, 40);
-    print::call(job, 65_537, 0, 0, 40);
-    print::call(job, 4_294_967_295, 0, 0, 40);
+fn slanted_calls(rt: &impl Print, job: &[u8]) -> io::Result<()> {
+    print::call(rt, job, 1, 0, 0, 40)?;
+    print::call(rt, job, 1, 0, 1, 40)?;
+    print::call(rt, job, 1, 0, 2, 40)?;
+    print::call(rt, job, 1, 0, 3, 40)?;
+    print::call(rt, job, 1, 1, 0, 40)?;
+    print::call(rt, job, 1, 1, 1, 40)?;
+    print::call(rt, job, 1, 1, 5, 40)?;
+    print::call(rt, job, 1, 3, 0, 40)?;
+    print::call(rt, job, 1, 3, 1, 40)?;
+    print::call(rt, job, 1, 4, 0, 40)?;
+    print::call(rt, job, 2, 0, 0, 40)?;
+    print::call(rt, job, 2, 0, 0, 39)?;
+    print::call(rt, job, 2, 4, 0, 40)?;
+    print::call(rt, job, 256, 0, 0, 40)?;
+    print::call(rt, job, 65_537, 0, 0, 40)?;
+    print::call(rt, job, 4_294_967_295, 0, 0, 40)
 }
 
 // The check call, and the first two offers of the first request.
-fn pair(name: &[u8], job: &[u8]) {
-    print::check(name, job);
-    print::call(job, 0, 0, 0, 40);
-    print::call(job, 0, 0, 1, 40);
+fn pair(rt: &impl Print, name: &[u8], job: &[u8]) -> io::Result<()> {
+    print::check(rt, name, job)?;
+    print::call(rt, job, 0, 0, 0, 40)?;
+    print::call(rt, job, 0, 0, 1, 40)
 }
 
-fn axes(space: &mut Space) {
+fn axes(rt: &impl Print, space: &mut Space) -> io::Result<()> {
     let n = jobs::small(&mut *space, 16, 3, ONE);
-    pair(b"16 axes", first(&*space, n));
+    pair(rt, b"16 axes", first(&*space, n))?;
     let n = jobs::small(&mut *space, 17, 3, ONE);
-    pair(b"17 axes", first(&*space, n));
+    pair(rt, b"17 axes", first(&*space, n))
 }
 
 // The last offer of the second request, which names the family twice, and one more.
-fn last_two(job: &[u8]) {
-    print::call(job, 0, 1, 85, 40);
-    print::call(job, 0, 1, 86, 40);
+fn last_two(rt: &impl Print, job: &[u8]) -> io::Result<()> {
+    print::call(rt, job, 0, 1, 85, 40)?;
+    print::call(rt, job, 0, 1, 86, 40)
 }
 
-fn places(space: &mut Space) {
+fn places(rt: &impl Print, space: &mut Space) -> io::Result<()> {
     let n = jobs::small(&mut *space, 0, 64, ONE);
-    pair(b"64 places", first(&*space, n));
-    last_two(first(&*space, n));
+    pair(rt, b"64 places", first(&*space, n))?;
+    last_two(rt, first(&*space, n))?;
     let n = jobs::small(&mut *space, 0, 65, ONE);
-    pair(b"65 places", first(&*space, n));
-    last_two(first(&*space, n));
+    pair(rt, b"65 places", first(&*space, n))?;
+    last_two(rt, first(&*space, n))
 }
 
-fn ratios(space: &mut Space) {
+fn ratios(rt: &impl Print, space: &mut Space) -> io::Result<()> {
     let n = jobs::small(&mut *space, 0, 3, SIXTEEN);
-    pair(b"ratio 16", first(&*space, n));
+    pair(rt, b"ratio 16", first(&*space, n))?;
     let n = jobs::small(&mut *space, 0, 3, SIXTEEN + 1);
-    pair(b"ratio over 16", first(&*space, n));
+    pair(rt, b"ratio over 16", first(&*space, n))
 }
 
-fn long(space: &mut Space) {
+fn long(rt: &impl Print, space: &mut Space) -> io::Result<()> {
     let n = jobs::long(&mut *space);
-    pair(b"long font", first(&*space, n));
+    pair(rt, b"long font", first(&*space, n))
 }
 
-fn large_calls(job: &[u8]) {
-    print::check(b"large", job);
-    print::call(job, 0, 0, 0, 40);
-    print::call(job, 0, 1, 0, 40);
-    print::call(job, 0, 1, 1, 40);
-    print::call(job, 0, 3, 0, 40);
-    print::call(job, 0, 3, 631, 40);
-    print::call(job, 0, 3, 632, 40);
-    print::call(job, 0, 127, 5, 40);
-    print::call(job, 0, 254, 7, 40);
-    print::call(job, 0, 254, 8, 40);
-    print::call(job, 0, 255, 631, 40);
-    print::call(job, 0, 255, 632, 40);
-    print::call(job, 0, 256, 0, 40);
-    print::call(job, 1, 3, 631, 40);
-    print::call(job, 1, 255, 631, 40);
-    print::call(job, 1, 256, 0, 40);
-    print::call(job, 2, 0, 0, 40);
+fn large_calls(rt: &impl Print, job: &[u8]) -> io::Result<()> {
+    print::check(rt, b"large", job)?;
+    print::call(rt, job, 0, 0, 0, 40)?;
+    print::call(rt, job, 0, 1, 0, 40)?;
+    print::call(rt, job, 0, 1, 1, 40)?;
+    print::call(rt, job, 0, 3, 0, 40)?;
+    print::call(rt, job, 0, 3, 631, 40)?;
+    print::call(rt, job, 0, 3, 632, 40)?;
+    print::call(rt, job, 0, 127, 5, 40)?;
+    print::call(rt, job, 0, 254, 7, 40)?;
+    print::call(rt, job, 0, 254, 8, 40)?;
+    print::call(rt, job, 0, 255, 631, 40)?;
+    print::call(rt, job, 0, 255, 632, 40)?;
+    print::call(rt, job, 0, 256, 0, 40)?;
+    print::call(rt, job, 1, 3, 631, 40)?;
+    print::call(rt, job, 1, 255, 631, 40)?;
+    print::call(rt, job, 1, 256, 0, 40)?;
+    print::call(rt, job, 2, 0, 0, 40)
 }
 
-fn large(space: &mut Space) {
+fn large(rt: &impl Print, space: &mut Space) -> io::Result<()> {
     let n = jobs::large(&mut *space);
-    large_calls(first(&*space, n));
+    large_calls(rt, first(&*space, n))
 }
 
-fn main() {
+fn main(rt: HostRuntime) -> io::Result<()> {
     let mut space: Space = [0u8; 1_100_000];
-    zeros();
-    small(&mut space);
-    axes(&mut space);
-    places(&mut space);
-    ratios(&mut space);
-    long(&mut space);
-    large(&mut space);
+    zeros(&rt)?;
+    small(&rt, &mut space)?;
+    axes(&rt, &mut space)?;
+    places(&rt, &mut space)?;
+    ratios(&rt, &mut space)?;
+    long(&rt, &mut space)?;
+    large(&rt, &mut space)
 }

@@ -3,13 +3,13 @@ ghost use Rattle.std.specs.Prelude.{◌<◌, ◌≤◌};
 
 use crate::put;
 use font::tables;
-use libc::STDOUT_FILENO;
+use std::io;
 
 // A byte, and then a number.
-fn print_number(before: u8, n: u64) {
+fn print_number(rt: &impl Print, before: u8, n: u64) -> io::Result<()> {
     let lead = [before];
-    io::write_all(STDOUT_FILENO, &lead);
-    io::print_decimal(STDOUT_FILENO, n);
+    rt.write_all(&lead)?;
+    print!(rt; "{n}")
 }
 
 fn wide(x: u8) -> u32
@@ -30,24 +30,26 @@ fn sum_of(job: &[u8]) -> u32 {
 }
 
 // The job's length and sum, and the answer of the exported check call: refusal and position.
-pub fn check(name: &[u8], job: &[u8]) {
+pub fn check(rt: &impl Print, name: &[u8], job: &[u8]) -> io::Result<()> {
     let checked = stemhook::stemhook_check(job);
-    io::write_all(STDOUT_FILENO, name);
-    io::write_all(STDOUT_FILENO, b":");
-    print_number(b' ', job.len() as u64);
-    print_number(b' ', sum_of(job) as u64);
-    print_number(b' ', checked % 256);
-    print_number(b' ', checked / 256);
-    io::write_all(STDOUT_FILENO, b"\n");
+    rt.write_all(name)?;
+    rt.write_all(b":")?;
+    print_number(rt, b' ', job.len() as u64)?;
+    print_number(rt, b' ', sum_of(job) as u64)?;
+    print_number(rt, b' ', checked % 256)?;
+    print_number(rt, b' ', checked / 256)?;
+    rt.write_all(b"\n")
 }
 
 // The bytes of an offer, in hexadecimal digits.
-fn print_record(out: &[u8; 48]) {
+fn print_record(rt: &impl Print, out: &[u8; 48]) -> io::Result<()> {
     let mut i: usize = 0;
     while i < 10 {
-        io::print_hex(STDOUT_FILENO, tables::u32_at(out, 4 * i) as u64, 8);
+        let word = tables::u32_at(out, 4 * i);
+        print!(rt; "{word:08x}")?;
         i += 1;
     }
+    Ok(())
 }
 
 // An output before the call: no byte of it is like its neighbours.
@@ -73,31 +75,38 @@ fn kept(out: [u8; 48], from: usize) -> bool {
     true
 }
 
-fn print_kept(kept: bool) {
+fn print_kept(rt: &impl Print, kept: bool) -> io::Result<()> {
     if kept {
-        io::write_all(STDOUT_FILENO, b" kept\n");
+        rt.write_all(b" kept\n")
     } else {
-        io::write_all(STDOUT_FILENO, b" changed\n");
+        rt.write_all(b" changed\n")
     }
 }
 
 // The exported offer call with the first `size` bytes of 48 as its output.
-pub fn call(job: &[u8], reading: u32, request: u32, number: u32, size: usize)
+pub fn call(
+    rt: &impl Print,
+    job: &[u8],
+    reading: u32,
+    request: u32,
+    number: u32,
+    size: usize,
+) -> io::Result<()>
     requires { size ≤ 48 }
 {
     let mut out = marked();
     let result = stemhook::stemhook_offer(job, reading, request, number, &mut out[0..size]);
-    print_number(b' ', reading as u64);
-    print_number(b' ', request as u64);
-    print_number(b' ', number as u64);
-    print_number(b' ', size as u64);
-    io::write_all(STDOUT_FILENO, b":");
-    print_number(b' ', result as u64);
+    print_number(rt, b' ', reading as u64)?;
+    print_number(rt, b' ', request as u64)?;
+    print_number(rt, b' ', number as u64)?;
+    print_number(rt, b' ', size as u64)?;
+    rt.write_all(b":")?;
+    print_number(rt, b' ', result as u64)?;
     if result == 0 {
-        io::write_all(STDOUT_FILENO, b" ");
-        print_record(&out);
-        print_kept(kept(out, 40));
+        rt.write_all(b" ")?;
+        print_record(rt, &out)?;
+        print_kept(rt, kept(out, 40))
     } else {
-        print_kept(kept(out, 0));
+        print_kept(rt, kept(out, 0))
     }
 }
