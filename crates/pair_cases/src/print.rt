@@ -29,7 +29,7 @@ fn sum_of(job: &[u8]) -> u32 {
     sum
 }
 
-// The job's length and sum, and the answer of the exported check call: refusal and position.
+// The job's length and sum, and the answer of the check call: refusal and position.
 pub fn check(rt: &impl Print, name: &[u8], job: &[u8]) -> io::Result<()> {
     let checked = stemhook::stemhook_check(job);
     rt.write_all(name)?;
@@ -83,7 +83,7 @@ fn print_kept(rt: &impl Print, kept: bool) -> io::Result<()> {
     }
 }
 
-// The exported offer call with the first `size` bytes of 48 as its output.
+// The offer call with the first `size` bytes of 48 as its output.
 pub fn call(
     rt: &impl Print,
     job: &[u8],
