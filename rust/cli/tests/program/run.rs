@@ -75,8 +75,14 @@ pub fn stemhook_reading<S: AsRef<OsStr>>(words: impl IntoIterator<Item = S>, inp
     Said::of(child.wait_with_output().unwrap())
 }
 
-/// A folder for a test, which starts empty.
+/// A folder for a test, which starts empty, and goes with the test.
 pub struct Folder(PathBuf);
+
+impl Drop for Folder {
+    fn drop(&mut self) {
+        let _ = fs::remove_dir_all(&self.0);
+    }
+}
 
 impl Folder {
     pub fn new(test: &str) -> Self {
