@@ -14,7 +14,7 @@ use Rattle.font.specs.Tables.{u16_at, u32_at, table_data}
 use Rattle.font.specs.Collection.{font_start}
 use Rattle.font.specs.StatedAttributes.{present, bit, width_of_class, post_angle, os2_style, from_os2_post, head_style, head_weight, from_head, from_tables, read_attributes}
 use Rattle.font.specs.Font.{empty_font, font_refusal, refusal_under, face_of, checked_by, checked_at, from_font_ref, stated_at}
-use Rattle.font.specs.TwoReadings.{Edges, Old, TwoReadings}
+use Rattle.font.specs.TwoReadings.{Edges, Old, OldStarts, TwoReadings}
 
 pub edges : Edges
 unfolding slant_under opposite fixed_to_single single of_int round neg eq
@@ -89,17 +89,20 @@ face_same file number = go (eqb (font_refusal file number) 0)
 -- ---- reading 0, by computing
 
 old_kept : (file : List ℕ) (number : ℕ) → Old file number
-unfolding post_angle os2_style from_os2_post slant_under from_tables read_attributes is_reading face_of from_font_ref refusal_under checked_by checked_at stated_at
+unfolding post_angle os2_style from_os2_post slant_under from_tables read_attributes is_reading face_of from_font_ref refusal_under checked_by stated_at
 old_kept file number =
     record {
       attributes = λ os2 post. refl;
       tables = λ start. refl;
       stated = λ start. refl;
       face = λ start. refl;
-      at_start = λ start. refl;
       font = refl;
       looked_at = λ start tag. refl;
     }
+
+pub old_starts : (file : List ℕ) → OldStarts file
+unfolding checked_by checked_at
+old_starts file = record { at_start = λ start. refl }
 
 -- ---- the statement
 

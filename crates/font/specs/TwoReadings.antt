@@ -60,15 +60,18 @@ pub record Old (file : List ℕ) (number : ℕ) : Type 0 where
         axis_count = axis_count_of (fvar_of file start);
         charmap_index = index_or no_index (charmap_index_of file start);
       }
-  pub at_start : (start : ℕ)
-      → checked_at 0 file start
-      ≡ record { refusal = refusal_at file start; font = cond (eqb (refusal_at file start) 0) (face_of 0 file start) empty_font }
   pub font : from_font_ref 0 file number
       ≡ record {
         refusal = font_refusal file number;
         font = cond (eqb (font_refusal file number) 0) (face_of 0 file (font_start file number)) empty_font;
       }
   pub looked_at : (start tag : ℕ) → stated_at 0 file start tag ≡ record { attributes = from_tables 0 file start; has_axis = states_axis file start tag }
+
+-- the same of the font whose directory begins at a place
+pub record OldStarts (file : List ℕ) : Type 0 where
+  pub at_start : (start : ℕ)
+      → checked_at 0 file start
+      ≡ record { refusal = refusal_at file start; font = cond (eqb (refusal_at file start) 0) (face_of 0 file start) empty_font }
 
 pub record TwoReadings (file : List ℕ) (number : ℕ) : Type 0 where
   pub old : Old file number

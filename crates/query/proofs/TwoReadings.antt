@@ -25,7 +25,7 @@ use Rattle.query.specs.View.{View, stated_by, families_of, view_by, view_of}
 use Rattle.query.specs.Offers.{faces_of, offers_of, face_of_offer, synthesis_of_offer, offer_at}
 use Rattle.query.specs.Call.{without_offer, with_synthesis, answered, request_of_job, view_answer, request_answer, job_answer, answer_call, offer_call}
 use Rattle.query.specs.Cursor.{stepped, run}
-use Rattle.query.specs.TwoReadings.{opposite_view, opposite_answer, Old, TwoReadings}
+use Rattle.query.specs.TwoReadings.{opposite_view, opposite_answer, Old, OldRun, TwoReadings, WrittenAnswers}
 use Rattle.query.proofs.AcceptedJobs.{layout_is_accepted}
 use Rattle.query.proofs.AnswerCases.{no_fourth, called, call_written}
 
@@ -75,7 +75,7 @@ module _ (view : View) where
 
 -- by computing
 old_kept : Old
-unfolding view_of view_by stated_by families_of synthesis_of_offer answered view_answer request_answer job_answer answer_call is_reading offer_call stepped run
+unfolding view_of view_by stated_by families_of synthesis_of_offer answered view_answer request_answer job_answer answer_call is_reading offer_call stepped
 old_kept =
     record {
       view = λ job. refl;
@@ -88,9 +88,11 @@ old_kept =
       answers = λ s k n. refl;
       calls = λ s k n out. refl;
       steps = λ s cursor. refl;
-      no_steps = λ s cursor. refl;
-      more_steps = λ s n cursor. refl;
     }
+
+pub old_run : OldRun
+unfolding run
+old_run = record { no_steps = λ s cursor. refl; more_steps = λ s n cursor. refl }
 
 answers_same : (job : Job) → JobFits job → (k n : ℕ) → answer_call (layout job) 1 k n ≡ opposite_answer (view_answer 0 (opposite_view job) job k n)
 unfolding request_answer is_reading
@@ -107,5 +109,8 @@ two_readings job fits =
       list = λ r. ap (λ (view : View). offers_of view r) (view_same job);
       synthesis = λ r o. ap (λ (view : View). synthesis_of_offer view 1 r o) (view_same job) ∙ synthesis_same (opposite_view job) r o;
       answers = answers_same job fits;
-      calls = λ k n out long. call_written (layout job) 1 k n out long (sym (answers_same job fits k n));
     }
+
+pub written_answers : (job : Job) → JobFits job → WrittenAnswers job
+written_answers job fits =
+    record { calls = λ k n out long. call_written (layout job) 1 k n out long (sym (answers_same job fits k n)) }

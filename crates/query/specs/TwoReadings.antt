@@ -69,6 +69,9 @@ pub record Old : Type 0 where
         cursor = after cursor (is_offer (answer_call s 0 cursor.request cursor.next));
         answer = answer_call s 0 cursor.request cursor.next;
       }
+
+-- the same of any number of steps
+pub record OldRun : Type 0 where
   pub no_steps : (s : List ℕ) (cursor : Cursor) → run s 0 zero cursor ≡ []
   pub more_steps : (s : List ℕ) (n : ℕ) (cursor : Cursor)
       → run s 0 (suc n) cursor ≡ (stepped s 0 cursor).answer ∷ run s 0 n (stepped s 0 cursor).cursor
@@ -81,7 +84,10 @@ pub record TwoReadings (job : Job) : Type 0 where
   -- each offer's synthesis
   pub synthesis : (r : Request) (o : Offer)
       → synthesis_of_offer (view_of 1 job) 1 r o ≡ opposite_slant (synthesis_of_offer (opposite_view job) 0 r o)
-  -- every answer of the offer call and the cursor, 1 and 28 among them; and what the call writes of it
+  -- every answer of the offer call and the cursor, 1 and 28 among them
   pub answers : (k n : ℕ) → answer_call (layout job) 1 k n ≡ opposite_answer (view_answer 0 (opposite_view job) job k n)
+
+-- what the offer call writes of each of these answers
+pub record WrittenAnswers (job : Job) : Type 0 where
   pub calls : (k n : ℕ) (out : List ℕ) → length out ≡ record_size
       → offer_call (layout job) 1 k n out ≡ written (opposite_answer (view_answer 0 (opposite_view job) job k n)) out

@@ -4,18 +4,18 @@ use Rattle.font.proofs.Fields.{in16}
 use Rattle.font.proofs.tables.u16_in.Goals as goal
 
 pub overflow_cast-result : goal.overflow_cast-result
-overflow_cast-result c = omega (arith, c.shared_slice_known-1.given c.args.at)
+overflow_cast-result c = omega (arith, c.type_inv.s c.args.at)
 
 pub overflow_mul-result : goal.overflow_mul-result
-overflow_mul-result c = omega (arith, c.shared_slice_known-1.given c.args.at)
+overflow_mul-result c = omega (arith, c.type_inv.s c.args.at)
 
 pub overflow_cast-result-2 : goal.overflow_cast-result-2
-overflow_cast-result-2 c = omega (arith, c.shared_slice_known-2-1.given (c.args.at + 1))
+overflow_cast-result-2 c = omega (arith, c.type_inv.s (c.args.at + 1))
 
 pub overflow_add-result-2 : goal.overflow_add-result-2
 overflow_add-result-2 c =
     omega
-    (arith, c.shared_slice_known-2-1.given c.args.at, c.shared_slice_known-2-1.given (c.args.at + 1))
+    (arith, c.type_inv.s c.args.at, c.type_inv.s (c.args.at + 1))
 
 pub returns : goal.returns
 returns c = in16 _ _ (omega arith)
