@@ -1,3 +1,4 @@
+use Rattle.std.specs.Prelude.{None, Some}
 -- An absent or damaged table and an unreadable field are never taken for data: each reader that is right for fields that lie whole in the bytes gives the attributes, the
 -- charmap index and the face that the definitions give (`FieldReaders.antt`), whatever it gives for other fields. Assumes nothing.
 use Prim.Native.Nat.{ℕ, ◌+◌, ◌*◌, ◌≤◌, ◌<◌}
@@ -11,10 +12,9 @@ use borrow.Author.Tests.{leb-true, le-leb, lt-ltb, le-ltb, ltb-true}
 use Rattle.font.specs.declared.tables.Table.{Table}
 use Rattle.font.specs.declared.tables.Table.TheVariants.{Absent, Damaged, Found}
 use Rattle.font.specs.declared.charmap.CharmapIndex.{CharmapIndex}
-use Rattle.font.specs.declared.charmap.Charmap.TheVariants.{Missing, Index}
 use Rattle.font.specs.declared.font.AxisInfo.{AxisInfo}
-use Rattle.font.specs.declared.font.Checked.{Checked}
-use Rattle.font.specs.declared.font.FontAttributes.TheVariants.{Refused, Stated}
+use Rattle.font.specs.Refusals.{Checked}
+use Rattle.font.specs.StatedAttributes.{Refused, Stated}
 use Rattle.font.specs.declared.font.FontInfo.{FontInfo}
 use Rattle.font.specs.Attributes.{default_attributes}
 use Rattle.font.specs.Slant.{is_reading}
@@ -265,7 +265,7 @@ module _ (r16 r32 : Fields) (right : Right r16 r32) where
       index at = record { subtable_offset = offset + at; is_symbol = eqb (best_class cmap) 2; is_mac_roman = eqb (best_class cmap) 3 }
 
       go : (b : Bool) → some_qualifies cmap ≡ b
-          → cond b (Index (index (r32 cmap (8 + 8 * best_record cmap)))) Missing ≡ cond b (Index (index (subtable_offset_of cmap (best_record cmap)))) Missing
+          → cond b (Some (index (r32 cmap (8 + 8 * best_record cmap)))) None ≡ cond b (Some (index (subtable_offset_of cmap (best_record cmap)))) None
       go true e = rw (right.whole32 cmap (8 + 8 * best_record cmap) (omega (arith, (inside cmap (best_record cmap) (best_qualified cmap e)).0)))
       go false e = refl
 

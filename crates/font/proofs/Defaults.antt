@@ -37,6 +37,8 @@ pub same_count : (f : FontInfo) (tags : List ℕ) (values : List Float) (k : ℕ
 unfolding with_defaults with_axes
 same_count f tags values k = refl
 
+pub ruleset one_by_one = (no_pairs, one_more_pair, same_count)
+
 -- a part of an axis that no default changes: its tag, its minimum, its maximum
 module _ {A : Type 0} (part : AxisInfo → A) (keeps : (a : AxisInfo) (x : Float) → part (with_default a x) ≡ part a) where
   part_set : (xs : List AxisInfo) (j i : ℕ) (x : Float) → part (axis_of (set xs j (with_default (axis_of xs j) x)) i) ≡ part (axis_of xs i)

@@ -6,19 +6,46 @@ use mathlib.Core.List.{List}
 use native.Mathlib.Omega.{arith}
 use lib.Dec.{leb, ltb, eqb}
 use borrow.Author.Tests.{leb-true, lt-ltb, ltb-true, eq-eqb, ne_eqb, eqb-true, eqb-false}
+use Rattle.std.specs.Prelude.{Option, None, Some, unwrap_or, Ok, Err}
+use Rattle.font.specs.declared.refusal.Refusal.{Refusal}
+use Rattle.font.specs.declared.refusal.Refusal.TheVariants.{WrongOutput, Overlong, PastEnd, OverLimit, NotHeld, BadDirectory, NoCharmap, ManyAxes, NoFace, Unknown, BadNumber, BytesLeft, NoRequest, FourthSetting, NoFont, DamagedTable}
+use Rattle.font.specs.Refusals.{checked}
+use Rattle.font.specs.Refusals.{number as number_of}
+use Rattle.font.specs.declared.charmap.CharmapIndex.{CharmapIndex}
 use Rattle.font.specs.declared.font.AxisInfo.{AxisInfo}
 use Rattle.font.specs.declared.font.FontInfo.{FontInfo}
 use Rattle.font.specs.Tables.{table_data, directory_fits}
 use Rattle.font.specs.Collection.{header_fits, font_count, font_start}
 use Rattle.font.specs.Charmap.{charmap_index_of}
 use Rattle.font.specs.StatedAttributes.{from_tables, loses_needed}
-use Rattle.font.specs.Font.{fvar_of, axis_count_of, axis_at, no_axis, axes_of, has_index, face_of, empty_font, refusal_at, font_refusal, refusal_under, checked_by, from_font_ref, states_axis}
+use Rattle.font.specs.Font.{fvar_of, axis_count_of, axis_at, no_axis, axes_of, no_index, index_or, has_index, face_of, empty_font, refusal_at, font_refusal, refusal_under, checked_by, from_font_ref, states_axis}
 use Rattle.font.specs.Overrides.{axis_of, first_axis}
-use Rattle.font.specs.Slant.{is_reading}
+use Rattle.font.specs.declared.slant.Reading.{Reading}
+use Rattle.font.specs.Slant.{is_reading, reading_number, reading_of}
+use Rattle.font.proofs.Readings.{reading_stands, of_reading, of_none}
 use Rattle.font.proofs.First.{first_same}
 use Rattle.font.proofs.Tabulated.{element}
 
 -- ---- the refusal
+
+number_above : (why : Refusal) → 0 < number_of why
+unfolding number_of
+number_above WrongOutput = omega arith
+number_above Overlong = omega arith
+number_above PastEnd = omega arith
+number_above OverLimit = omega arith
+number_above NotHeld = omega arith
+number_above BadDirectory = omega arith
+number_above NoCharmap = omega arith
+number_above ManyAxes = omega arith
+number_above NoFace = omega arith
+number_above Unknown = omega arith
+number_above BadNumber = omega arith
+number_above BytesLeft = omega arith
+number_above NoRequest = omega arith
+number_above FourthSetting = omega arith
+number_above NoFont = omega arith
+number_above DamagedTable = omega arith
 
 -- it is one of the table's rows of a font, or none
 pub data OneOf (n : ℕ) : Type 0 where
@@ -143,7 +170,17 @@ taken_under reading font n = go (is_reading reading) refl
     go true e z = (e, z)
     go false e z = absurd (omega arith)
 
+-- the directory of such a one fits
+pub fits_taken : (reading : ℕ) (font : List ℕ) (n start : ℕ) → refusal_under reading font n ≡ 0 → start ≡ font_start font n → directory_fits font start ≡ true
+fits_taken reading font n start z e = rw e (fits_stated font n (taken_under reading font n z).1)
+
 -- ---- the face
+
+-- the index of a face, as `unwrap_or` gives it
+pub index_or_is : (o : Option CharmapIndex) → unwrap_or o no_index ≡ index_or no_index o
+unfolding index_or
+index_or_is None = refl
+index_or_is (Some index) = refl
 
 module _ (reading : ℕ) (font : List ℕ) (n : ℕ) where
   pub accepted_face_lem : refusal_under reading font n ≡ 0 → (from_font_ref reading font n).font ≡ face_of reading font (font_start font n)
@@ -153,6 +190,31 @@ module _ (reading : ℕ) (font : List ℕ) (n : ℕ) where
   refused_face : (refusal_under reading font n ≡ 0 → ⊥) → (from_font_ref reading font n).font ≡ empty_font
   unfolding from_font_ref checked_by
   refused_face h = simp (ne_eqb (refusal_under reading font n) 0 h)
+
+  -- ---- the answer, by the reading of its number and the font's refusal
+
+  answered_refusal : (why : Refusal) → number_of why ≡ refusal_under reading font n → checked empty_font (Err why) ≡ from_font_ref reading font n
+  unfolding checked from_font_ref checked_by
+  answered_refusal why e = rw (← e, ne_eqb (number_of why) 0 (λ z. omega (arith, z, number_above why)))
+
+  pub answered_none : (why : Refusal) → Err why ≡ reading_of reading → checked empty_font (Err why) ≡ from_font_ref reading font n
+  unfolding refusal_under number_of
+  answered_none why e = let none = of_none reading why e in answered_refusal why (rw (none.0, none.1))
+
+  module _ (r : Reading) (e : Ok r ≡ reading_of reading) where
+    of_number : refusal_under reading font n ≡ font_refusal font n
+    of_number = under_reading reading font n (rw (of_reading reading r e) (reading_stands r))
+
+    pub answered_font : (why : Refusal) → number_of why ≡ font_refusal font n → checked empty_font (Err why) ≡ from_font_ref reading font n
+    answered_font why z = answered_refusal why (z ∙ sym of_number)
+
+    pub not_refused : 0 ≡ font_refusal font n → refusal_under (reading_number r) font n ≡ 0
+    not_refused z = under_reading (reading_number r) font n (reading_stands r) ∙ sym z
+
+    pub answered_face : (face : FontInfo) → 0 ≡ font_refusal font n → face ≡ face_of (reading_number r) font (font_start font n)
+        → checked empty_font (Ok face) ≡ from_font_ref reading font n
+    unfolding checked from_font_ref checked_by
+    answered_face face z f = rw (of_number, ← z, f, of_reading reading r e)
 
   -- what holds of the empty face and of the face of each font that is not refused holds of every face that is read
   pub each_face : (P : FontInfo → Type 0) → P empty_font → (refusal_under reading font n ≡ 0 → P (face_of reading font (font_start font n)))

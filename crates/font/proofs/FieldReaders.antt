@@ -1,3 +1,4 @@
+use Rattle.std.specs.Prelude.{Option, None, Some}
 -- Section 2 a second time, over any reader of fields: `r16` and `r32` give a field's number where it lies whole in the bytes, and anything where it does not.
 -- A field can be read here by these two alone, and a table that is not found has no bytes to read. `AnyReader.antt` shows that each such reader gives
 -- what the definitions give: an absent or damaged table and an unreadable field are never taken for data.
@@ -6,14 +7,13 @@ use mathlib.Core.Bool.{Bool, true, false, not, ◌&&◌, cond}
 use mathlib.Core.List.{List}
 use lib.ListN.{length, take, drop}
 use lib.Dec.{leb, ltb, eqb}
+use Rattle.font.specs.declared.charmap.CharmapIndex.{CharmapIndex}
 use Rattle.font.specs.declared.attributes.Angle.{Angle}
 use Rattle.font.specs.declared.attributes.Attributes.{Attributes}
 use Rattle.font.specs.declared.attributes.Angle.TheVariants.{Unstated, Degrees}
 use Rattle.font.specs.declared.attributes.FontStyle.TheVariants.{Normal, Italic, Oblique}
-use Rattle.font.specs.declared.charmap.Charmap.{Charmap}
-use Rattle.font.specs.declared.charmap.Charmap.TheVariants.{Missing, Index}
 use Rattle.font.specs.declared.font.AxisInfo.{AxisInfo}
-use Rattle.font.specs.declared.font.Checked.{Checked}
+use Rattle.font.specs.Refusals.{Checked}
 use Rattle.font.specs.declared.font.FontInfo.{FontInfo}
 use Rattle.font.specs.declared.tables.Table.{Table}
 use Rattle.font.specs.declared.tables.Table.TheVariants.{Absent, Damaged, Found}
@@ -147,20 +147,20 @@ module _ (r16 r32 : Fields) where
   unfoldable pub record_class_by : List ℕ → ℕ → ℕ
   record_class_by cmap i = cond (qualifies_by cmap i) (class_by cmap i) 4
 
-  unfoldable pub index_in_by : ℕ → List ℕ → Charmap
+  unfoldable pub index_in_by : ℕ → List ℕ → Option CharmapIndex
   index_in_by offset cmap =
       cond (some (qualifies_by cmap) (r16 cmap 2))
-      (Index
+      (Some
       (record {
         subtable_offset = offset + r32 cmap (8 + 8 * first_least 4 (record_class_by cmap) (r16 cmap 2));
         is_symbol = eqb (least_below 4 (record_class_by cmap) (r16 cmap 2)) 2;
         is_mac_roman = eqb (least_below 4 (record_class_by cmap) (r16 cmap 2)) 3;
       }))
-      Missing
+      None
 
-  unfoldable pub index_by : List ℕ → Table → Charmap
-  index_by font Absent = Missing
-  index_by font Damaged = Missing
+  unfoldable pub index_by : List ℕ → Table → Option CharmapIndex
+  index_by font Absent = None
+  index_by font Damaged = None
   index_by font (Found offset len) = index_in_by offset (bytes_at font offset len)
 
   -- ---- the refusal and the face

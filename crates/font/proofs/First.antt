@@ -1,14 +1,14 @@
--- Laws of `first`, `every` and `some`. Of `first`: it is at most the number of things, what it finds has the property, and nothing before it has.
+-- Laws of `first` and `some`. Of `first`: it is at most the number of things, what it finds has the property, and nothing before it has.
 use Prim.Native.Nat.{ℕ, zero, suc, ◌+◌, ◌≤◌, ◌<◌}
 use mathlib.Core.Path.{◌≡◌, refl, sym, ◌∙◌, ap}
-use mathlib.Core.Bool.{Bool, true, false, ◌&&◌, ◌||◌, cond}
+use mathlib.Core.Bool.{Bool, true, false, ◌||◌, cond}
 use mathlib.Core.Logic.{◌⊎◌, inl, inr, ⊎_elim}
 use native.Mathlib.Omega.{arith}
 use native.Mathlib.Decide.{le_ind}
 use native.Mathlib.Numerals.{add-one}
 use lib.Dec.{ltb}
 use borrow.Author.Tests.{lt-ltb, le-ltb, ltb-true, ltb-false}
-use Rattle.font.specs.First.{first, some, every}
+use Rattle.font.specs.First.{first, some}
 
 -- below n + 1 is below n, or n
 pub below_or_last : (k n : ℕ) → k < suc n → (k < n) ⊎ (k ≡ n)
@@ -110,25 +110,6 @@ keep_step p n h = simp (lt-ltb (first p n) n h)
 pub keep : (p : ℕ → Bool) (m n : ℕ) → m ≤ n → first p m < m → first p n ≡ first p m
 keep p m n l h = le_ind (λ k. first p k ≡ first p m) refl (λ k g e. keep_step p k (omega arith) ∙ e) n l
 
--- ---- `every`, for a loop that stops at the first that fails
-
-pub every_start : (p : ℕ → Bool) → every p 0 ≡ true
-unfolding every
-every_start p = refl
-
-pub every_more : (p : ℕ → Bool) (i : ℕ) → every p i ≡ true → p i ≡ true → every p (i + 1) ≡ true
-unfolding every
-every_more p i h e = rw (add-one i) (simp (h, e))
-
-pub every_fails : (p : ℕ → Bool) (i n : ℕ) → i < n → p i ≡ false → false ≡ every p n
-unfolding every
-every_fails p i zero l e = absurd (omega arith)
-every_fails p i (suc n) l e = ⊎_elim (λ h. rw (← every_fails p i n h e)) (λ h. go (every p n) (ap p (sym h) ∙ e)) (below_or_last i n l)
-  where
-    go : (b : Bool) → p n ≡ false → false ≡ b && p n
-    go true q = sym q
-    go false q = refl
-
 -- ---- `some`
 
 pub some_same : (p q : ℕ → Bool) (n : ℕ) → ((i : ℕ) → p i ≡ q i) → some p n ≡ some q n
@@ -151,3 +132,30 @@ all_fail p (suc n) h i l = go (some p n) (p n) refl refl h (λ e. all_fail p n e
     go false false s e z back = ⊎_elim (λ g. back s g) (λ g. ap p g ∙ e) (below_or_last i n l)
     go false true s e z back = absurd (let c : ◌≡◌ {A = ℕ} 0 1 = cc in omega arith)
     go true b s e z back = absurd (let c : ◌≡◌ {A = ℕ} 0 1 = cc in omega arith)
+
+-- ---- for a loop that looks for one
+
+pub some_start : (p : ℕ → Bool) → some p 0 ≡ false
+unfolding some
+some_start p = refl
+
+pub some_more : (p : ℕ → Bool) (i : ℕ) → some p i ≡ false → p i ≡ false → some p (i + 1) ≡ false
+unfolding some
+some_more p i h e = rw (add-one i) (simp (h, e))
+
+pub some_found : (p : ℕ → Bool) (i n : ℕ) → i < n → p i ≡ true → true ≡ some p n
+unfolding some
+some_found p i zero l e = absurd (omega arith)
+some_found p i (suc n) l e = ⊎_elim (λ h. rw (← some_found p i n h e)) (λ h. go (some p n) (ap p (sym h) ∙ e)) (below_or_last i n l)
+  where
+    go : (b : Bool) → p n ≡ true → true ≡ (b || p n)
+    go true q = refl
+    go false q = sym q
+
+-- some has it where the first that has it is below n
+pub some_first : (p : ℕ → Bool) (n : ℕ) → ltb (first p n) n ≡ some p n
+some_first p n = go (ltb (first p n) n) refl
+  where
+    go : (b : Bool) → ltb (first p n) n ≡ b → ltb (first p n) n ≡ some p n
+    go true t = let l = ltb-true (first p n) n t in t ∙ some_found p (first p n) n l (holds p n l)
+    go false t = t ∙ sym (some_fails p n (λ i l. before p n i (omega (arith, ltb-false (first p n) n t))))

@@ -1,14 +1,14 @@
 -- A magnitude of 65536ths, as a single: it is finite, and its bits are those that `nearest_bits` works out. Assumes nothing.
 use mathlib.Core.Path.{◌≡◌, refl, sym, ap, ◌∙◌, subst}
 use mathlib.Core.Bool.{Bool, true, false, not, cond}
-use Prim.Native.Nat.{ℕ, suc, ◌+◌, ◌-◌, ◌*◌, ◌/◌, ◌%◌, ◌^◌, ◌≤◌, ◌<◌, compare, Ordering}
-use native.Mathlib.Nat.{le_trans, le_of_eq, lt_of_le_of_lt, suc-add, zero-add, mul_comm, mul_assoc, mul-pos, mul-le-mul_right, mul-div_cancel, add-sub_of_le}
+use Prim.Native.Nat.{ℕ, zero, suc, ◌+◌, ◌-◌, ◌*◌, ◌/◌, ◌%◌, ◌^◌, ◌≤◌, ◌<◌, compare, Ordering}
+use native.Mathlib.Nat.{le_trans, le_of_eq, lt_of_le_of_lt, suc-add, mul_comm, mul_assoc, mul-pos, mul-le-mul_right, mul-div_cancel, add-sub_of_le}
 use native.Mathlib.Omega.{arith}
 use borrow.Author.Tests.{lt-ltb, le-ltb}
 use lib.Dec.{T, lit<}
 use lib.Pow.{pow-add, pow_pos, shl_lt, shl_exact}
-use lib.Count.{count_leading_zeros, leading_top}
-use lib.Ieee.{Float, nan, inf, fin, binary32, size, nearest, round, is_nan, nan_bits, of_bits, to_bits}
+use lib.Count.{count_leading_zeros, leading_top, leading_le}
+use lib.Ieee.{Float, nan, inf, fin, binary32, size, nearest, odd, units, round, neg, is_nan, nan_bits, of_bits, to_bits}
 use lib.Ieee.Bits.{of_bits-to_bits, nan_bits_is}
 use lib.Ieee.Fits.{round-fits}
 use lib.Ieee.Nearest.{closest, closest_same}
@@ -86,12 +86,7 @@ pub bits_of_zero : 0 ≡ to_bits binary32 (round binary32 false 0 65536)
 unfolding to_bits round
 bits_of_zero = refl
 
--- ---- the sign's bit
-pub signed : (s : Bool) (m : ℕ) → m < 2 ^ 32 → cond s (2 ^ 31) 0 + to_bits binary32 (round binary32 false m 65536) ≡ to_bits binary32 (round binary32 s m 65536)
-signed s m h =
-    ap (λ (x : ℕ). cond s (2 ^ 31) 0 + x) (round_bits binary32 false m 65536 (lit< tt) (in_range m h) ∙ zero-add _)
-    ∙ sym (round_bits binary32 s m 65536 (lit< tt) (in_range m h))
-
+-- ---- read as a single, of either sign
 pub read_back : (s : Bool) (m : ℕ) → of_bits binary32 (to_bits binary32 (round binary32 s m 65536)) ≡ round binary32 s m 65536
 read_back s m = of_bits-to_bits binary32 (round binary32 s m 65536) (round-fits binary32 s m 65536)
 
@@ -117,3 +112,20 @@ fixed_positive n h = simp (lt-ltb n (2 ^ 31) h)
 pub fixed_negative : (n : ℕ) → 2 ^ 31 ≤ n → fixed_to_single n ≡ round binary32 true (2 ^ 32 - n) 65536
 unfolding fixed_to_single
 fixed_negative n h = simp (le-ltb n (2 ^ 31) h)
+
+negated_odd : (d q k l : ℕ) → neg (odd d false q k l) ≡ odd d true q k l
+unfolding neg odd
+negated_odd d zero k l = refl
+negated_odd d (suc q) k l = refl
+
+pub negated : (m : ℕ) → neg (round binary32 false m 65536) ≡ round binary32 true m 65536
+unfolding round neg units
+negated m = go _ _ _
+  where
+    go : (b : Bool) (q k : ℕ) → neg (cond b (odd 25 false q k 149) (inf false)) ≡ cond b (odd 25 true q k 149) (inf true)
+    go true q k = negated_odd 25 q k 149
+    go false q k = refl
+
+pub ruleset of_magnitude = (zeros_lt, bits_of, bits_of_zero, leading_le)
+
+pub ruleset of_sign = (no_nan, read_back, negated, fixed_positive, fixed_negative)

@@ -1,5 +1,6 @@
 -- Laws that the proofs of `font` share, and laws that tie its definitions to the document's words.
 -- Section 1: single-precision numbers.
+pub mod Floats
 pub mod Scaled
 pub mod Closest
 pub mod Units
@@ -9,7 +10,6 @@ pub mod Nan
 pub mod FiniteBits
 pub mod Pattern
 pub mod Steps
-pub mod Whole
 pub mod Casts
 pub mod OrderKey
 pub mod Compare
@@ -18,11 +18,13 @@ pub mod InOrder
 pub mod Percent
 -- The two readings of a slant.
 pub mod Opposites
+pub mod Readings
 -- Section 2: font reading.
 pub mod Fields
 pub mod First
 pub mod Least
 pub mod Tabulated
+pub mod Taken
 pub mod Lookup
 pub mod Needed
 pub mod Collections

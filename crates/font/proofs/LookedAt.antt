@@ -1,3 +1,4 @@
+use Rattle.std.specs.Prelude.{Option, None, Some}
 -- What is read of a font file depends on five tables alone, and in these on what section 2 names: OS/2, `post`, `head`, the axes of `fvar`, and the
 -- records of `cmap` that qualify. Two files that are alike there (`specs/LookedAt.antt`) are read alike. Assumes nothing.
 use Prim.Native.Nat.{ℕ, ◌+◌, ◌*◌, ◌≤◌, ◌<◌}
@@ -10,9 +11,7 @@ use lib.Seq.{get_or-take}
 use lib.Dec.{leb, ltb, eqb}
 use borrow.Author.Tests.{le-leb, lt-ltb, ltb-true}
 use Rattle.font.specs.declared.attributes.Attributes.{Attributes}
-use Rattle.font.specs.declared.charmap.Charmap.{Charmap}
 use Rattle.font.specs.declared.charmap.CharmapIndex.{CharmapIndex}
-use Rattle.font.specs.declared.charmap.Charmap.TheVariants.{Missing, Index}
 use Rattle.font.specs.declared.font.AxisInfo.{AxisInfo}
 use Rattle.font.specs.declared.tables.Table.{Table}
 use Rattle.font.specs.declared.tables.Table.TheVariants.{Absent, Damaged, Found}
@@ -182,13 +181,13 @@ module _ {c d : List ℕ} (h : RecordsAlike c d) where
       first_least_same 4 (record_class c) (u16_at c 2) (record_class d) (u16_at d 2) (keeps_class c d h.forth) (keeps_class d c h.back)
       (best_low c q)
 
-no_index_lem : (font : List ℕ) (start : ℕ) → some_qualifies (table_data font start 0x636D6170 4) ≡ false → charmap_index_of font start ≡ Missing
+no_index_lem : (font : List ℕ) (start : ℕ) → some_qualifies (table_data font start 0x636D6170 4) ≡ false → charmap_index_of font start ≡ None
 unfolding has_index
 no_index_lem font start e = go (charmap_index_of font start) (font_has font start ∙ e)
   where
-    go : (m : Charmap) → has_index m ≡ false → m ≡ Missing
-    go Missing h = refl
-    go (Index i) h = absurd (let z : ◌≡◌ {A = ℕ} 0 1 = cc in omega arith)
+    go : (m : Option CharmapIndex) → has_index m ≡ false → m ≡ None
+    go None h = refl
+    go (Some i) h = absurd (let z : ◌≡◌ {A = ℕ} 0 1 = cc in omega arith)
 
 index_of_best : (font : List ℕ) (start : ℕ) → some_qualifies (table_data font start 0x636D6170 4) ≡ true
     → OfRecord font start (best_record (table_data font start 0x636D6170 4)) (eqb (best_class (table_data font start 0x636D6170 4)) 2) (eqb (best_class (table_data font start 0x636D6170 4)) 3)
@@ -245,7 +244,7 @@ module _ (f : List ℕ) (a : ℕ) (g : List ℕ) (b : ℕ) (h : SameTables (hand
 -- ---- where the subtable lies
 
 -- c and d are the indices of the two fonts, whose `cmap` tables lie at o and p
-module _ (f : List ℕ) (a : ℕ) (g : List ℕ) (b : ℕ) (same_index : SameIndex f a g b) (c d : CharmapIndex) (at_c : charmap_index_of f a ≡ Index c) (at-d : charmap_index_of g b ≡ Index d)
+module _ (f : List ℕ) (a : ℕ) (g : List ℕ) (b : ℕ) (same_index : SameIndex f a g b) (c d : CharmapIndex) (at_c : charmap_index_of f a ≡ Some c) (at-d : charmap_index_of g b ≡ Some d)
     (o n p m : ℕ) (lies-f : find_table f a 0x636D6170 4 ≡ Found o n) (lies-g : find_table g b 0x636D6170 4 ≡ Found p m)
   where
     -- it is that of one record in both

@@ -11,34 +11,47 @@ use lib.Dec.{leb, ltb}
 use borrow.Author.Tests.{leb-true, leb-false, le-leb, lt-leb}
 use Rattle.font.specs.declared.tables.Table.{Table}
 use Rattle.font.specs.declared.tables.Table.TheVariants.{Absent, Damaged, Found}
-use Rattle.font.specs.Tables.{table_of_record, find_table, part_of, table_data, hand_out, handed_table, bytes_of, record_length, record_offset, first_record, directory_fits, starts_as_font, u16_at, u32_at, record_count}
+use Rattle.font.specs.Tables.{table_of_record, find_table, part_of, table_data, hand_out, handed_table, bytes_of, is_damaged, record_length, record_offset, first_record, directory_fits, starts_as_font, u16_at, u32_at, record_count}
 
--- a directory whose header reaches past the file does not fit, and of any other the start and the records tell
+-- a directory fits where its header and as many records as it counts lie in the file, and it starts as a font
+pub fits : (font : List ℕ) (start n : ℕ) → start + 12 ≤ length font → starts_as_font (u32_at font start) ≡ true → n ≡ u16_at font (start + 4)
+    → n ≤ (length font - 12 - start) / 16 → directory_fits font start ≡ true
+unfolding directory_fits record_count
+fits font start n h s e l =
+    rw (le-leb (start + 12) (length font) h, s, le-leb (start + 12 + 16 * u16_at font (start + 4)) (length font) (omega arith))
+
+-- and else not
 pub past_file : (font : List ℕ) (start : ℕ) → length font < start + 12 → false ≡ directory_fits font start
 unfolding directory_fits
 past_file font start h = rw (lt-leb (start + 12) (length font) h)
 
-pub fits_by : (font : List ℕ) (start : ℕ) → start + 12 ≤ length font
-    → (starts_as_font (u32_at font start) && leb (start + 12 + 16 * u16_at font (start + 4)) (length font)) ≡ directory_fits font start
-unfolding directory_fits record_count
-fits_by font start h = rw (le-leb (start + 12) (length font) h)
+pub other_start : (font : List ℕ) (start : ℕ) → starts_as_font (u32_at font start) ≡ false → directory_fits font start ≡ false
+unfolding directory_fits
+other_start font start s = rw s (go (leb (start + 12) (length font)))
+  where
+    go : (b : Bool) → (b && false) ≡ false
+    go true = refl
+    go false = refl
 
--- of one that starts as a font, whether as many records as it counts lie in the rest of the file
+pub records_past : (font : List ℕ) (start n : ℕ) → start + 12 ≤ length font → n ≡ u16_at font (start + 4) → (length font - 12 - start) / 16 < n
+    → directory_fits font start ≡ false
+unfolding directory_fits record_count
+records_past font start n h e l =
+    rw (lt-leb (start + 12 + 16 * u16_at font (start + 4)) (length font) (omega arith)) (go (leb (start + 12) (length font)) (starts_as_font (u32_at font start)))
+  where
+    go : (a b : Bool) → (a && (b && false)) ≡ false
+    go true true = refl
+    go true false = refl
+    go false b = refl
+
+-- all three together: of a file that starts as a font, whether as many records as it counts lie in the rest of the file
 pub fits_as : (font : List ℕ) (start n : ℕ) → start + 12 ≤ length font → starts_as_font (u32_at font start) ≡ true → n ≡ u16_at font (start + 4)
     → leb n ((length font - 12 - start) / 16) ≡ directory_fits font start
-fits_as font start n h s e = go (leb n ((length font - 12 - start) / 16)) refl ∙ fits_by font start h
+fits_as font start n h s e = go (leb n ((length font - 12 - start) / 16)) refl
   where
-    go : (b : Bool) → leb n ((length font - 12 - start) / 16) ≡ b
-        → leb n ((length font - 12 - start) / 16) ≡ (starts_as_font (u32_at font start) && leb (start + 12 + 16 * u16_at font (start + 4)) (length font))
-    go true t =
-        let l = leb-true n ((length font - 12 - start) / 16) t in
-        t ∙ sym (rw (s, le-leb (start + 12 + 16 * u16_at font (start + 4)) (length font) (omega arith)))
-    go false t =
-        let l = leb-false n ((length font - 12 - start) / 16) t in
-        t ∙ sym (rw (s, lt-leb (start + 12 + 16 * u16_at font (start + 4)) (length font) (omega arith)))
-
-pub fits_not : (font : List ℕ) (start : ℕ) → start + 12 ≤ length font → starts_as_font (u32_at font start) ≡ false → false ≡ directory_fits font start
-fits_not font start h s = sym (rw s) ∙ fits_by font start h
+    go : (b : Bool) → leb n ((length font - 12 - start) / 16) ≡ b → leb n ((length font - 12 - start) / 16) ≡ directory_fits font start
+    go true t = t ∙ sym (fits font start n h s e (leb-true n ((length font - 12 - start) / 16) t))
+    go false t = t ∙ sym (records_past font start n h e (leb-false n ((length font - 12 - start) / 16) t))
 
 -- the records of a directory that fits lie in the file
 pub records_inside : (font : List ℕ) (start : ℕ) → directory_fits font start ≡ true → start + 12 + 16 * record_count font start ≤ length font
@@ -87,13 +100,25 @@ pub found_part : (font : List ℕ) (start : ℕ) (tag least o n : ℕ) → find_
 unfolding part_of table_data
 found_part font start tag least o n e = rw (add-sub_cancel_left, e)
 
-pub absent_part : (font : List ℕ) (start : ℕ) (tag least : ℕ) → find_table font start tag least ≡ Absent → [] ≡ table_data font start tag least
+-- of one that is not found no byte is handed out
+pub none_found : (font : List ℕ) (start tag least : ℕ) (t : Table) → t ≡ find_table font start tag least → (t ≡ Damaged) ⊎ (t ≡ Absent)
+    → [] ≡ table_data font start tag least
 unfolding part_of table_data
-absent_part font start tag least e = rw e
+none_found font start tag least t e (inl h) = rw (sym e ∙ h)
+none_found font start tag least t e (inr h) = rw (sym e ∙ h)
 
-pub damaged_part : (font : List ℕ) (start : ℕ) (tag least : ℕ) → find_table font start tag least ≡ Damaged → [] ≡ table_data font start tag least
-unfolding part_of table_data
-damaged_part font start tag least e = rw e
+pub damage : (font : List ℕ) (start tag least : ℕ) → find_table font start tag least ≡ Damaged → true ≡ is_damaged (handed_table font start tag least)
+unfolding handed_table hand_out is_damaged
+damage font start tag least e = rw e
+
+pub no_damage : (font : List ℕ) (start tag least : ℕ) → (find_table font start tag least ≡ Damaged → ⊥) → false ≡ is_damaged (handed_table font start tag least)
+unfolding handed_table hand_out is_damaged
+no_damage font start tag least h = go (find_table font start tag least) refl
+  where
+    go : (t : Table) → find_table font start tag least ≡ t → false ≡ is_damaged (hand_out font t)
+    go Absent e = refl
+    go Damaged e = absurd (h e)
+    go (Found o n) e = refl
 
 -- the bytes of what is handed out
 pub handed_bytes : (font : List ℕ) (start tag least : ℕ) → bytes_of (handed_table font start tag least) ≡ table_data font start tag least

@@ -5,14 +5,10 @@ use Prim.Native.Nat.{ℕ, zero, suc, ◌+◌, ◌-◌, ◌<◌, ◌≤◌, ◌^�
 use native.Mathlib.Omega.{arith}
 use lib.Dec.{T, ltb}
 use lib.IntN.{pos, negsuc, neg_ℤ, ◌+ℤ◌}
-use lib.Ieee.{Float, nan, binary32, fits, is_nan, to_bits}
+use lib.Ieee.{Float, binary32, fits, is_nan, to_bits}
 use lib.Ieee.Bits.{cond_no, to_bits-lt}
 use borrow.Author.Tests.{lt-ltb, le-ltb, ltb-false}
 use Rattle.font.specs.Single.{order_of_bits, order_number, key_of_bits, order_key}
-
-pub key_of_nan : order_key nan ≡ 0
-unfolding order_key is_nan
-key_of_nan = refl
 
 module _ (x : Float) (h : T (not (is_nan x))) where
   pub key_of_bits_lem : order_key x ≡ key_of_bits (to_bits binary32 x)
@@ -44,3 +40,5 @@ raised_bits b h = go (ltb b (2 ^ 31)) refl
 pub raised : (x : Float) → T (not (is_nan x)) → T (fits binary32 x) → pos (order_key x) ≡ pos (2 ^ 31) +ℤ order_number x
 unfolding order_number
 raised x h f = ap pos (key_of_bits_lem x h) ∙ raised_bits (to_bits binary32 x) (to_bits-lt binary32 x f)
+
+pub ruleset of_high_bits = (key_high, to_bits-lt)

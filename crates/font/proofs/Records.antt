@@ -1,23 +1,32 @@
+use Rattle.std.specs.Prelude.{None, Some}
 -- Laws of `cmap` records.
-use Prim.Native.Nat.{ℕ, zero, suc, ◌+◌, ◌*◌, ◌≤◌, ◌<◌}
+use Prim.Native.Nat.{ℕ, ◌+◌, ◌-◌, ◌*◌, ◌/◌, ◌≤◌, ◌<◌, min}
 use mathlib.Core.Path.{◌≡◌, refl, sym, ◌∙◌}
-use mathlib.Core.Bool.{Bool, true, false, not, ◌&&◌, ◌||◌, cond}
+use mathlib.Core.Bool.{Bool, true, false, ◌&&◌, ◌||◌, cond}
 use mathlib.Core.List.{List}
+use mathlib.Core.Logic.{◌⊎◌, inl, inr}
 use native.Mathlib.Omega.{arith}
 use lib.ListN.{length}
 use lib.Dec.{leb, ltb, eqb}
-use borrow.Author.Tests.{eqb-true, eqb-false, eq-eqb, leb-true, le-leb, lt-leb, lt-ltb, le-ltb, ltb-true, ltb-false}
+use borrow.Author.Tests.{leb-true, le-leb, lt-leb, lt-ltb, le-ltb, ltb-true, ltb-false}
 use Rattle.font.specs.declared.tables.Table.{Table}
 use Rattle.font.specs.declared.tables.Table.TheVariants.{Absent, Damaged, Found}
 use Rattle.font.specs.declared.charmap.CharmapIndex.{CharmapIndex}
-use Rattle.font.specs.declared.charmap.Charmap.TheVariants.{Missing, Index}
+use denote.Enum.Bare.{sameb}
+use Rattle.std.specs.Prelude.{Option, is_some, IfSome}
+use Rattle.std.specs.Ordering.{partial_lt}
+use Rattle.font.specs.contracts.charmap.Class.{the_type}
+use Rattle.font.specs.contracts.charmap.ClassPartialOrd.TheImpl.{partial_cmp-value}
+use Rattle.font.specs.declared.charmap.Class.{Class}
+use Rattle.font.specs.declared.charmap.Class.TheVariants.{Full, Basic, Symbol, MacRoman}
+use Rattle.font.specs.declared.charmap.BestRecord.{BestRecord}
 use Rattle.font.specs.First.{some}
 use Rattle.font.specs.Tables.{u16_at, find_table, part_of, table_data}
-use Rattle.font.specs.Charmap.{is_pair, class_of, subtable_offset_of, lies_in, pair_class, qualifies, record_class, some_qualifies, best_class, best_record, index_of, index_in, charmap_index_of}
+use Rattle.font.specs.Charmap.{class_number, best_number, is_pair, class_of, subtable_offset_of, lies_in, pair_class, qualifies, record_class, some_qualifies, best_class, best_record, index_of, index_in, charmap_index_of}
 use Rattle.font.specs.Font.{has_index}
 use Rattle.font.proofs.Fields.{out16}
 use Rattle.font.proofs.First.{some_same}
-use Rattle.font.proofs.Least.{Best, best_rest, at_most, first_below, attained, some_below}
+use Rattle.font.proofs.Least.{Best, best_rest, best_done, at_most, first_below, attained, some_below}
 
 -- a record that does not lie in the table has no class
 pub past : (cmap : List ℕ) (k : ℕ) → length cmap < 12 + 8 * k → record_class cmap k ≡ 4
@@ -28,6 +37,76 @@ past cmap k h = simp (lt-leb (12 + 8 * k) (length cmap) h)
 pub best_before : (cmap : List ℕ) (m n c b : ℕ) → length cmap < 12 + 8 * m → m ≤ n → Best 4 (record_class cmap) m c b
     → Best 4 (record_class cmap) n c b
 best_before cmap m n c b h l w = best_rest 4 (record_class cmap) m n c b l (λ k g. omega (arith, past cmap k (omega arith))) w
+
+-- so it is where no more records are looked at than lie whole in the table
+pub best_of_whole : (cmap : List ℕ) (m n c b : ℕ) → m ≡ min n ((length cmap - 4) / 8) → Best 4 (record_class cmap) m c b → Best 4 (record_class cmap) n c b
+best_of_whole cmap m n c b e w = go (ltb m n) refl
+  where
+    go : (t : Bool) → ltb m n ≡ t → Best 4 (record_class cmap) n c b
+    go true h = let l = ltb-true m n h in best_before cmap m n c b (omega arith) (omega arith) w
+    go false h = let same : m ≡ n = omega (arith, ltb-false m n h) in rw (← same) w
+
+-- ---- the numbers of classes
+
+pub class_low : (k : Class) → class_number (Some k) < 4
+unfolding class_number
+class_low Full = omega arith
+class_low Basic = omega arith
+class_low Symbol = omega arith
+class_low MacRoman = omega arith
+
+pub number_at_most : (best : Option BestRecord) → best_number best ≤ 4
+unfolding best_number class_number
+number_at_most None = omega arith
+number_at_most (Some best) = omega (arith, class_low best.class)
+
+-- there is a class where the number is below 4
+pub is_class : (k : Option Class) → is_some k ≡ ltb (class_number k) 4
+unfolding class_number
+is_class None = refl
+is_class (Some Full) = refl
+is_class (Some Basic) = refl
+is_class (Some Symbol) = refl
+is_class (Some MacRoman) = refl
+
+-- classes are compared as their numbers are
+pub class_order : (a b : Class) → partial_lt partial_cmp-value.it a b ≡ ltb (class_number (Some a)) (class_number (Some b))
+unfolding class_number
+class_order Full Full = refl
+class_order Full Basic = refl
+class_order Full Symbol = refl
+class_order Full MacRoman = refl
+class_order Basic Full = refl
+class_order Basic Basic = refl
+class_order Basic Symbol = refl
+class_order Basic MacRoman = refl
+class_order Symbol Full = refl
+class_order Symbol Basic = refl
+class_order Symbol Symbol = refl
+class_order Symbol MacRoman = refl
+class_order MacRoman Full = refl
+class_order MacRoman Basic = refl
+class_order MacRoman Symbol = refl
+class_order MacRoman MacRoman = refl
+
+pub symbol_is : (k : Class) → sameb the_type k Symbol ≡ eqb (class_number (Some k)) 2
+unfolding class_number
+symbol_is Full = refl
+symbol_is Basic = refl
+symbol_is Symbol = refl
+symbol_is MacRoman = refl
+
+pub mac_roman_is : (k : Class) → sameb the_type k MacRoman ≡ eqb (class_number (Some k)) 3
+unfolding class_number
+mac_roman_is Full = refl
+mac_roman_is Basic = refl
+mac_roman_is Symbol = refl
+mac_roman_is MacRoman = refl
+
+-- where a best record stands; 0 for none
+unfoldable pub place : Option BestRecord → ℕ
+place None = 0
+place (Some best) = best.i
 
 -- ---- the class of a record
 
@@ -42,79 +121,6 @@ class_at_most p e = go (is_pair p e 3 10 || (is_pair p e 0 4 || is_pair p e 0 6)
     go false false false true = omega arith
     go false false false false = omega arith
 
--- the platform p and the encoding e as one number
-module _ (p e n : ℕ) (is : n ≡ p * 65536 + e) (small : e < 65536) where
-  not_pair : (a b : ℕ) → (n ≡ a * 65536 + b → ⊥) → is_pair p e a b ≡ false
-  unfolding is_pair
-  not_pair a b h = go (eqb p a) (eqb e b) refl refl
-    where
-      go : (x y : Bool) → eqb p a ≡ x → eqb e b ≡ y → (x && y) ≡ false
-      go true true f g =
-          let at : p ≡ a = eqb-true p a f in
-          absurd (h (rw (← at) (omega (arith, eqb-true e b g))))
-      go true false f g = refl
-      go false y f g = refl
-
-  is_pair_lem : (a b : ℕ) → p ≡ a → e ≡ b → is_pair p e a b ≡ true
-  unfolding is_pair
-  is_pair_lem a b f g = rw (eq-eqb p a f, eq-eqb e b g)
-
-  -- a low number is that of an encoding of Unicode
-  pub low_class : n < 7 → not (eqb n 5) ≡ ltb (class_of p e) 4
-  unfolding class_of is_pair
-  low_class l = let first : p ≡ 0 = omega arith in let same : n ≡ e = omega arith in rw (first, same) (go e (omega arith))
-    where
-      go : (e : ℕ) → e < 7 → not (eqb e 5) ≡ ltb (class_of 0 e) 4
-      go zero l = refl
-      go (suc zero) l = refl
-      go (suc (suc zero)) l = refl
-      go (suc (suc (suc zero))) l = refl
-      go (suc (suc (suc (suc zero)))) l = refl
-      go (suc (suc (suc (suc (suc zero))))) l = refl
-      go (suc (suc (suc (suc (suc (suc zero)))))) l = refl
-      go (suc (suc (suc (suc (suc (suc (suc e))))))) l = absurd (omega arith)
-
-  -- three numbers of the platform Windows
-  pub windows_class : (b : ℕ) → b < 65536 → n ≡ 0x30000 + b → ltb (class_of 3 b) 4 ≡ ltb (class_of p e) 4
-  windows_class b l h = let at : p ≡ 3 = omega arith in let same : e ≡ b = omega arith in rw (at, same)
-
-  -- of the others four have a class
-  pub high_class : 7 ≤ n → (n ≡ 0x30001 → ⊥) → (n ≡ 0x3000A → ⊥) → (n ≡ 0x30000 → ⊥) → eqb n 0x10000 ≡ ltb (class_of p e) 4
-  unfolding class_of
-  high_class h a b c =
-      rw (not_pair 3 10 b, not_pair 0 4 (λ z. omega arith), not_pair 0 6 (λ z. omega arith), not_pair 3 1 a, low_false, not_pair 3 0 c) (go (is_pair p e 1 0) roman)
-    where
-      low_false : (eqb p 0 && leb e 3) ≡ false
-      low_false = go (eqb p 0) (leb e 3) refl refl
-        where
-          go : (x y : Bool) → eqb p 0 ≡ x → leb e 3 ≡ y → (x && y) ≡ false
-          go true true f g = absurd (omega (arith, eqb-true p 0 f, leb-true e 3 g))
-          go true false f g = refl
-          go false y f g = refl
-
-      roman : eqb n 0x10000 ≡ is_pair p e 1 0
-      roman = go (eqb n 0x10000) refl
-        where
-          go : (x : Bool) → eqb n 0x10000 ≡ x → x ≡ is_pair p e 1 0
-          go true f = let k = eqb-true n 0x10000 f in sym (is_pair_lem 1 0 (omega arith) (omega arith))
-          go false f = sym (not_pair 1 0 (eqb-false n 0x10000 f))
-
-      go : (x : Bool) → eqb n 0x10000 ≡ x → eqb n 0x10000 ≡ ltb (cond x 3 4) 4
-      go true f = f
-      go false f = f
-
-pub class_3_0 : ltb (class_of 3 0) 4 ≡ true
-unfolding class_of is_pair
-class_3_0 = refl
-
-pub class_3_1 : ltb (class_of 3 1) 4 ≡ true
-unfolding class_of is_pair
-class_3_1 = refl
-
-pub class_3_10 : ltb (class_of 3 10) 4 ≡ true
-unfolding class_of is_pair
-class_3_10 = refl
-
 -- of a record that lies in the table, as two bytes at its offset do, it is its pair's
 pub class_in : (cmap : List ℕ) (i : ℕ) → 12 + 8 * i ≤ length cmap → subtable_offset_of cmap i + 2 ≤ length cmap → record_class cmap i ≡ pair_class cmap i
 unfolding record_class qualifies lies_in pair_class
@@ -123,16 +129,6 @@ class_in cmap i h l = rw (le-leb (12 + 8 * i) (length cmap) h, le-leb (subtable_
     go : (b : Bool) → ltb (pair_class cmap i) 4 ≡ b → cond b (pair_class cmap i) 4 ≡ pair_class cmap i
     go true e = refl
     go false e = omega (arith, ltb-false (pair_class cmap i) 4 e, class_at_most (u16_at cmap (4 + 8 * i)) (u16_at cmap (6 + 8 * i)))
-
--- and it qualifies where that is a class
-pub qualifies_in : (cmap : List ℕ) (i : ℕ) → 12 + 8 * i ≤ length cmap → subtable_offset_of cmap i + 2 ≤ length cmap → ltb (pair_class cmap i) 4 ≡ qualifies cmap i
-unfolding qualifies lies_in
-qualifies_in cmap i h l = rw (le-leb (12 + 8 * i) (length cmap) h, le-leb (subtable_offset_of cmap i + 2) (length cmap) l)
-
--- one whose subtable begins past the table does not
-pub subtable_past : (cmap : List ℕ) (i : ℕ) → 12 + 8 * i ≤ length cmap → length cmap < subtable_offset_of cmap i + 2 → false ≡ qualifies cmap i
-unfolding qualifies lies_in
-subtable_past cmap i h l = rw (le-leb (12 + 8 * i) (length cmap) h, lt-leb (subtable_offset_of cmap i + 2) (length cmap) l)
 
 -- a record has a class exactly where it qualifies
 pub has_class : (cmap : List ℕ) (i : ℕ) → ltb (record_class cmap i) 4 ≡ qualifies cmap i
@@ -178,6 +174,17 @@ module _ (cmap : List ℕ) (q : some_qualifies cmap ≡ true) where
       sym (has_class cmap (best_record cmap))
       ∙ lt-ltb (record_class cmap (best_record cmap)) 4 (omega (arith, attained 4 (record_class cmap) (u16_at cmap 2) best_low, best_low))
 
+-- what a loop that keeps the best record ends with
+pub best_found : (cmap : List ℕ) (best : Option BestRecord) → Best 4 (record_class cmap) (u16_at cmap 2) (best_number best) (place best)
+    → (best_number best ≡ best_class cmap) × IfSome best (λ b. (b.i ≡ best_record cmap) × (12 + 8 * b.i ≤ length cmap))
+unfolding best_number place best_class best_record
+best_found cmap None w = (w.least, tt)
+best_found cmap (Some best) w =
+    let low = class_low best.class in
+    let at = (best_done 4 (record_class cmap) (u16_at cmap 2) (class_number (Some best.class)) best.i w).1 low in
+    let q : some_qualifies cmap ≡ true = sym (best_qualifies cmap) ∙ rw (← w.least) (lt-ltb (class_number (Some best.class)) 4 low) in
+    (w.least, (at, omega (arith, at, (inside cmap (best_record cmap) (best_qualified cmap q)).0)))
+
 -- a record that has a class
 pub some_class : (cmap : List ℕ) (i : ℕ) → i < u16_at cmap 2 → record_class cmap i < 4 → true ≡ some_qualifies cmap
 unfolding best_class
@@ -198,9 +205,19 @@ pub table_has : (offset : ℕ) (cmap : List ℕ) → has_index (index_of offset 
 unfolding has_index index_of
 table_has offset cmap = go (some_qualifies cmap) _
   where
-    go : (b : Bool) (index : CharmapIndex) → has_index (cond b (Index index) Missing) ≡ b
+    go : (b : Bool) (index : CharmapIndex) → has_index (cond b (Some index) None) ≡ b
     go true index = refl
     go false index = refl
+
+pub no_index_of : (offset : ℕ) (cmap : List ℕ) → 4 ≡ best_class cmap → None ≡ index_of offset cmap
+unfolding index_of
+no_index_of offset cmap e = rw (← best_qualifies cmap, ← e)
+
+-- a table that is not found gives none
+pub none_in : (font : List ℕ) (start : ℕ) (t : Table) → t ≡ find_table font start 0x636D6170 4 → (t ≡ Damaged) ⊎ (t ≡ Absent) → None ≡ charmap_index_of font start
+unfolding charmap_index_of index_in
+none_in font start t e (inl h) = rw (sym e ∙ h)
+none_in font start t e (inr h) = rw (sym e ∙ h)
 
 -- so does a font; a table that is not found has no records
 pub font_has : (font : List ℕ) (start : ℕ) → has_index (charmap_index_of font start) ≡ some_qualifies (table_data font start 0x636D6170 4)

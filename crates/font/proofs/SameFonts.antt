@@ -1,3 +1,4 @@
+use Rattle.std.specs.Prelude.{None, Some}
 -- A font of a collection is read as a lone font with the same tables (`specs/LookedAt.antt`). Assumes nothing.
 use Prim.Native.Nat.{ℕ, ◌<◌}
 use mathlib.Core.Path.{◌≡◌, refl, sym, ap, ◌∙◌}
@@ -7,7 +8,6 @@ use native.Mathlib.Omega.{arith}
 use lib.ListN.{length}
 use lib.Dec.{ltb}
 use borrow.Author.Tests.{le-leb, ltb-true}
-use Rattle.font.specs.declared.charmap.Charmap.TheVariants.{Missing, Index}
 use Rattle.font.specs.declared.charmap.CharmapIndex.{CharmapIndex}
 use Rattle.font.specs.declared.font.FontInfo.{FontInfo}
 use Rattle.font.specs.First.{first, some, least_below, first_least}
@@ -44,7 +44,7 @@ module _ (f : List ℕ) (m : ℕ) (fits : directory_fits f (font_start f m) ≡ 
 -- ---- where the index lies
 
 -- a font that is not refused has an index
-has_one : (f : List ℕ) (start : ℕ) → refusal_at f start ≡ 0 → charmap_index_of f start ≡ Missing → ⊥
+has_one : (f : List ℕ) (start : ℕ) → refusal_at f start ≡ 0 → charmap_index_of f start ≡ None → ⊥
 unfolding refusal_at has_index
 has_one f start z e = go (directory_fits f start) (loses_needed f start) (rw e at z)
   where
@@ -53,7 +53,7 @@ has_one f start z e = go (directory_fits f start) (loses_needed f start) (rw e a
     go true false h = omega arith
     go false l h = omega arith
 
-index_of_face : (reading : ℕ) (f : List ℕ) (m : ℕ) → refusal_under reading f m ≡ 0 → (c : CharmapIndex) → charmap_index_of f (font_start f m) ≡ Index c
+index_of_face : (reading : ℕ) (f : List ℕ) (m : ℕ) → refusal_under reading f m ≡ 0 → (c : CharmapIndex) → charmap_index_of f (font_start f m) ≡ Some c
     → (from_font_ref reading f m).font.charmap_index ≡ c
 unfolding face_of index_or
 index_of_face reading f m z c e = ap (λ (x : FontInfo). x.charmap_index) (accepted_face_lem reading f m z) ∙ rw e
@@ -125,8 +125,8 @@ collection =
 pub record Example : Type 0 where
   pub same : SameFont collection 1 lone 0
   pub taken : font_refusal collection 1 ≡ 0
-  pub in_collection : charmap_index_of collection (font_start collection 1) ≡ Index (record { subtable_offset = 32; is_symbol = false; is_mac_roman = false })
-  pub in_lone : charmap_index_of lone (font_start lone 0) ≡ Index (record { subtable_offset = 40; is_symbol = false; is_mac_roman = false })
+  pub in_collection : charmap_index_of collection (font_start collection 1) ≡ Some (record { subtable_offset = 32; is_symbol = false; is_mac_roman = false })
+  pub in_lone : charmap_index_of lone (font_start lone 0) ≡ Some (record { subtable_offset = 40; is_symbol = false; is_mac_roman = false })
 
 pub example : Example
 unfolding collection lone subtables directory is_collection header_fits font_count offsets_fit offset_of font_start font_refusal refusal_at directory_fits starts_as_font record_count record_tag record_offset record_length first_record first table_of_record find_table part_of table_data hand_out handed_table is_damaged needed_damaged loses_needed u16_at u32_at has_index charmap_index_of index_in index_of some_qualifies some qualifies lies_in pair_class class_of is_pair subtable_offset_of best_record best_class record_class least_below first_least fvar_of axis_count_of present

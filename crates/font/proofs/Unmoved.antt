@@ -9,7 +9,7 @@ use borrow.Author.Tests.{lt-ltb}
 use Rattle.font.specs.declared.tables.Table.{Table}
 use Rattle.font.specs.declared.tables.Table.TheVariants.{Absent, Damaged, Found}
 use Rattle.font.specs.declared.attributes.FontStyle.TheVariants.{Normal}
-use Rattle.font.specs.declared.font.FontAttributes.TheVariants.{Refused, Stated}
+use Rattle.font.specs.StatedAttributes.{Refused, Stated}
 use Rattle.font.specs.First.{first, some}
 use Rattle.font.specs.Single.{single}
 use Rattle.font.specs.Attributes.{attributes_of}

@@ -1,9 +1,11 @@
 -- Section 2, `cmap`: the charmap index, from OpenType's "cmap - Character to Glyph Index Mapping Table".
-use Rattle.std.specs.Prelude.{ℕ, ◌+◌, ◌*◌, ◌<◌, ◌≡◌, Bool, false, ◌&&◌, ◌||◌, cond, List, length, leb, ltb, eqb}
+use Rattle.std.specs.Prelude.{ℕ, ◌+◌, ◌*◌, ◌<◌, ◌≡◌, Bool, false, ◌&&◌, ◌||◌, cond, List, length, leb, ltb, eqb, Option, None, Some}
+use Rattle.font.specs.declared.charmap.BestRecord.{BestRecord}
+use Rattle.font.specs.declared.charmap.Class.{Class}
+use Rattle.font.specs.declared.charmap.Class.TheVariants.{Full, Basic, Symbol, MacRoman}
+use Rattle.font.specs.declared.charmap.CharmapIndex.{CharmapIndex}
 use Rattle.font.specs.declared.tables.Table.{Table}
 use Rattle.font.specs.declared.tables.Table.TheVariants.{Absent, Damaged, Found}
-use Rattle.font.specs.declared.charmap.Charmap.{Charmap}
-use Rattle.font.specs.declared.charmap.Charmap.TheVariants.{Missing, Index}
 use Rattle.font.specs.First.{some, least_below, first_least}
 use Rattle.font.specs.Tables.{u16_at, u32_at, find_table, part_of}
 
@@ -19,6 +21,18 @@ class_of p e =
     (cond (is_pair p e 3 0) 2
     (cond (is_pair p e 1 0) 3
     4)))
+
+-- the number of a class, or 4 for none
+unfoldable pub class_number : Option Class → ℕ
+class_number None = 4
+class_number (Some Full) = 0
+class_number (Some Basic) = 1
+class_number (Some Symbol) = 2
+class_number (Some MacRoman) = 3
+
+unfoldable pub best_number : Option BestRecord → ℕ
+best_number None = 4
+best_number (Some best) = class_number (Some best.class)
 
 -- "16-bit record count at 2, then 8-byte records of platform, encoding, 32-bit offset."
 unfoldable pub subtable_offset_of : List ℕ → ℕ → ℕ
@@ -51,24 +65,24 @@ unfoldable pub best_record : List ℕ → ℕ
 best_record cmap = first_least 4 (record_class cmap) (u16_at cmap 2)
 
 -- "The index is the file offset of that subtable and the two flags." The table lies at `offset` in the file.
-unfoldable pub index_of : ℕ → List ℕ → Charmap
+unfoldable pub index_of : ℕ → List ℕ → Option CharmapIndex
 index_of offset cmap =
     cond (some_qualifies cmap)
-    (Index
+    (Some
     (record {
       subtable_offset = offset + subtable_offset_of cmap (best_record cmap);
       is_symbol = eqb (best_class cmap) 2;
       is_mac_roman = eqb (best_class cmap) 3;
     }))
-    Missing
+    None
 
-unfoldable pub index_in : List ℕ → Table → Charmap
-index_in file Absent = Missing
-index_in file Damaged = Missing
+unfoldable pub index_in : List ℕ → Table → Option CharmapIndex
+index_in file Absent = None
+index_in file Damaged = None
 index_in file (Found offset len) = index_of offset (part_of file (Found offset len))
 
 -- `cmap`, at least 4 bytes; "damaged `cmap` is still 22"
-unfoldable pub charmap_index_of : List ℕ → ℕ → Charmap
+unfoldable pub charmap_index_of : List ℕ → ℕ → Option CharmapIndex
 charmap_index_of file start = index_in file (find_table file start 0x636D6170 4)
 
 -- "no qualifying `cmap` record", the condition of refusal 22: where a font has the table, none of its records qualifies

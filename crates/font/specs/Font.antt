@@ -1,11 +1,9 @@
 -- Section 2: axes, and the face that a font file gives.
-use Rattle.std.specs.Prelude.{ℕ, ◌+◌, ◌*◌, Bool, true, false, ◌&&◌, cond, List, length, leb, ltb, eqb}
+use Rattle.std.specs.Prelude.{ℕ, ◌+◌, ◌*◌, Bool, true, false, ◌&&◌, cond, List, length, leb, ltb, eqb, Option, None, Some}
 use Rattle.font.specs.declared.charmap.CharmapIndex.{CharmapIndex}
-use Rattle.font.specs.declared.charmap.Charmap.{Charmap}
-use Rattle.font.specs.declared.charmap.Charmap.TheVariants.{Missing, Index}
 use Rattle.font.specs.declared.font.AxisInfo.{AxisInfo}
 use Rattle.font.specs.declared.font.FontInfo.{FontInfo}
-use Rattle.font.specs.declared.font.Checked.{Checked}
+use Rattle.font.specs.Refusals.{Checked}
 use Rattle.font.specs.declared.font.Stated.{Stated}
 use Rattle.font.specs.First.{first, tabulate}
 use Rattle.font.specs.Single.{single, fixed_to_single}
@@ -49,13 +47,13 @@ unfoldable pub no_index : CharmapIndex
 no_index = record { subtable_offset = 0; is_symbol = false; is_mac_roman = false }
 
 -- "no qualifying `cmap` record" is no index: `Qualifying.refused_22` and `gives_22` show that 22 is given exactly for it
-unfoldable pub has_index : Charmap → Bool
-has_index Missing = false
-has_index (Index index) = true
+unfoldable pub has_index : Option CharmapIndex → Bool
+has_index None = false
+has_index (Some index) = true
 
-unfoldable pub index_or : CharmapIndex → Charmap → CharmapIndex
-index_or other Missing = other
-index_or other (Index index) = index
+unfoldable pub index_or : CharmapIndex → Option CharmapIndex → CharmapIndex
+index_or other None = other
+index_or other (Some index) = index
 
 -- ---- section 6, the rows of a font: 21 "bad start or directory past file", 31 "a needed table is damaged; after 21 and before 22", 22 "no qualifying `cmap`
 -- record", 23 "over 16 axes given by section 2"; 0 is no refusal. Of the font whose directory begins at `start`.

@@ -1,5 +1,6 @@
 -- What the contracts of `font` cite. Each definition renders the rules of docs/GUIDE.md, sections 1 to 3, and OpenType's tables.
 pub mod First
+pub mod Refusals
 pub mod Single
 pub mod Nearest
 pub mod Attributes

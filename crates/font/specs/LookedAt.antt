@@ -1,7 +1,6 @@
 -- What section 2 looks at in a font file. Two files that are alike there are read alike (`proofs/LookedAt.antt`), whatever else they hold.
-use Rattle.std.specs.Prelude.{ℕ, ◌+◌, ◌*◌, ◌≤◌, ◌<◌, max, ◌≡◌, Bool, true, false, List, [], length, take}
+use Rattle.std.specs.Prelude.{ℕ, ◌+◌, ◌*◌, ◌≤◌, ◌<◌, max, ◌≡◌, Bool, true, false, List, [], length, take, None, Some}
 use Rattle.font.specs.declared.tables.Table.TheVariants.{Found}
-use Rattle.font.specs.declared.charmap.Charmap.TheVariants.{Missing, Index}
 use Rattle.font.specs.declared.font.FontInfo.{FontInfo}
 use Rattle.font.specs.Tables.{u16_at, directory_fits, find_table, table_data, Handed, no_table, damaged_table, found_table, handed_table, bytes_of}
 use Rattle.font.specs.Collection.{font_start}
@@ -105,7 +104,7 @@ pub record OfRecord (file : List ℕ) (start i : ℕ) (symbol roman : Bool) : Ty
   pub stated : i < u16_at (table_data file start 0x636D6170 4) 2
   pub qualified : qualifies (table_data file start 0x636D6170 4) i ≡ true
   pub index : charmap_index_of file start
-      ≡ Index
+      ≡ Some
       (record {
         subtable_offset = offset + subtable_offset_of (table_data file start 0x636D6170 4) i;
         is_symbol = symbol;
@@ -114,7 +113,7 @@ pub record OfRecord (file : List ℕ) (start i : ℕ) (symbol roman : Bool) : Ty
 
 -- no index in both, or in both that of one record, with the same flags
 pub data SameIndex (f : List ℕ) (a : ℕ) (g : List ℕ) (b : ℕ) : Type 0 where
-  missing : charmap_index_of f a ≡ Missing → charmap_index_of g b ≡ Missing → SameIndex f a g b
+  missing : charmap_index_of f a ≡ None → charmap_index_of g b ≡ None → SameIndex f a g b
   of_record : (i : ℕ) (symbol roman : Bool) → OfRecord f a i symbol roman → OfRecord g b i symbol roman → SameIndex f a g b
 
 pub record SameReading (f : List ℕ) (a : ℕ) (g : List ℕ) (b : ℕ) : Type 0 where

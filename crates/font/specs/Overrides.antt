@@ -1,5 +1,5 @@
 -- Section 3: overrides on a face by value, and which faces are accepted.
-use Rattle.std.specs.Prelude.{ℕ, zero, suc, min, Bool, true, false, ◌&&◌, cond, List, length, get_or, set, leb, ltb, eqb, Float}
+use Rattle.std.specs.Prelude.{ℕ, zero, suc, min, Option, None, Some, Bool, true, false, ◌&&◌, cond, List, length, get_or, set, leb, ltb, eqb, Float}
 use Rattle.std.specs.Float.{nan}
 use Rattle.std.specs.Float.Ieee.{eq}
 use Rattle.std.specs.Float.Ieee.Scale.{finite}
@@ -8,31 +8,27 @@ use Rattle.font.specs.declared.attributes.FontStyle.TheVariants.{Normal, Italic,
 use Rattle.font.specs.declared.attributes.Attributes.{Attributes}
 use Rattle.font.specs.declared.font.AxisInfo.{AxisInfo}
 use Rattle.font.specs.declared.font.FontInfo.{FontInfo}
-use Rattle.font.specs.declared.font.Checked.{Checked}
-use Rattle.font.specs.declared.overrides.WidthOverride.{WidthOverride}
-use Rattle.font.specs.declared.overrides.StyleOverride.{StyleOverride}
-use Rattle.font.specs.declared.overrides.WeightOverride.{WeightOverride}
+use Rattle.font.specs.Refusals.{Checked}
+use Rattle.font.specs.declared.attributes.FontWidth.{FontWidth}
+use Rattle.font.specs.declared.attributes.FontWeight.{FontWeight}
 use Rattle.font.specs.declared.overrides.FontInfoOverride.{FontInfoOverride}
-use Rattle.font.specs.declared.overrides.WidthOverride.TheVariants as Width
-use Rattle.font.specs.declared.overrides.StyleOverride.TheVariants as Style
-use Rattle.font.specs.declared.overrides.WeightOverride.TheVariants as Weight
 use Rattle.font.specs.First.{first, every}
 use Rattle.font.specs.Single.{single, accepted_ratio}
 use Rattle.font.specs.Attributes.{attributes_of, accepted_style, accepted_attributes}
 
 -- ---- "`apply_override` replaces the present attributes"
 
-unfoldable pub ratio_of : WidthOverride → Float → Float
-ratio_of Width.Keep own = own
-ratio_of (Width.Set w) own = w.ratio
+unfoldable pub ratio_of : Option FontWidth → Float → Float
+ratio_of None own = own
+ratio_of (Some w) own = w.ratio
 
-unfoldable pub style_of : StyleOverride → FontStyle → FontStyle
-style_of Style.Keep own = own
-style_of (Style.Set s) own = s
+unfoldable pub style_of : Option FontStyle → FontStyle → FontStyle
+style_of None own = own
+style_of (Some s) own = s
 
-unfoldable pub weight_of : WeightOverride → Float → Float
-weight_of Weight.Keep own = own
-weight_of (Weight.Set w) own = w.value
+unfoldable pub weight_of : Option FontWeight → Float → Float
+weight_of None own = own
+weight_of (Some w) own = w.value
 
 unfoldable pub overridden : Attributes → FontInfoOverride → Attributes
 overridden a o =
@@ -111,17 +107,17 @@ accepted_axis a = finite a.min && (finite a.default && finite a.max)
 unfoldable pub accepted_face : FontInfo → Bool
 accepted_face f = accepted_attributes f.attributes && every (λ i. accepted_axis (axis_of f.axes i)) f.axis_count
 
-unfoldable pub accepted_width_override : WidthOverride → Bool
-accepted_width_override Width.Keep = true
-accepted_width_override (Width.Set w) = accepted_ratio w.ratio
+unfoldable pub accepted_width_override : Option FontWidth → Bool
+accepted_width_override None = true
+accepted_width_override (Some w) = accepted_ratio w.ratio
 
-unfoldable pub accepted_style_override : StyleOverride → Bool
-accepted_style_override Style.Keep = true
-accepted_style_override (Style.Set s) = accepted_style s
+unfoldable pub accepted_style_override : Option FontStyle → Bool
+accepted_style_override None = true
+accepted_style_override (Some s) = accepted_style s
 
-unfoldable pub accepted_weight_override : WeightOverride → Bool
-accepted_weight_override Weight.Keep = true
-accepted_weight_override (Weight.Set w) = finite w.value
+unfoldable pub accepted_weight_override : Option FontWeight → Bool
+accepted_weight_override None = true
+accepted_weight_override (Some w) = finite w.value
 
 unfoldable pub accepted_override : FontInfoOverride → Bool
 accepted_override o = accepted_width_override o.width && (accepted_style_override o.style && accepted_weight_override o.weight)

@@ -1,14 +1,14 @@
 -- Section 2: the attributes that a font states, from OpenType's OS/2, `post` and `head` tables.
-use Rattle.std.specs.Prelude.{ℕ, ◌/◌, ◌%◌, ◌^◌, Bool, true, false, not, ◌&&◌, cond, List, [], ◌∷◌, length, get_or, ltb, eqb, Float}
+use Rattle.std.specs.Prelude.{ℕ, ◌/◌, ◌%◌, ◌^◌, Bool, true, false, not, ◌&&◌, cond, List, [], ◌∷◌, length, get_or, ltb, eqb, Float, Result, Ok, Err}
 use Rattle.std.specs.Float.{binary32}
 use Rattle.std.specs.Float.Ieee.{round}
 use Rattle.font.specs.declared.attributes.Angle.{Angle}
 use Rattle.font.specs.declared.attributes.FontStyle.{FontStyle}
 use Rattle.font.specs.declared.attributes.Attributes.{Attributes}
-use Rattle.font.specs.declared.font.FontAttributes.{FontAttributes}
 use Rattle.font.specs.declared.attributes.Angle.TheVariants.{Unstated, Degrees}
 use Rattle.font.specs.declared.attributes.FontStyle.TheVariants.{Normal, Italic, Oblique}
-use Rattle.font.specs.declared.font.FontAttributes.TheVariants.{Refused, Stated}
+use Rattle.font.specs.declared.refusal.Refusal.{Refusal}
+use Rattle.font.specs.Refusals.{number}
 use Rattle.font.specs.Single.{single, fixed_to_single}
 use Rattle.font.specs.Attributes.{attributes_of, default_attributes}
 use Rattle.font.specs.Slant.{is_reading, slant_under}
@@ -76,6 +76,16 @@ needed_damaged (found_table os2) head post = needs_post os2 && is_damaged post
 unfoldable pub loses_needed : List ℕ → ℕ → Bool
 loses_needed file start =
     needed_damaged (handed_table file start 0x4F532F32 78) (handed_table file start 0x68656164 54) (handed_table file start 0x706F7374 32)
+
+-- what a font says of its attributes, or the number of the refusal
+pub data FontAttributes : Type 0 where
+  Refused : ℕ → FontAttributes
+  Stated : Attributes → FontAttributes
+
+-- so of an answer
+unfoldable pub stated_in : Result Attributes Refusal → FontAttributes
+stated_in (Ok attributes) = Stated attributes
+stated_in (Err why) = Refused (number why)
 
 -- what a font says of its attributes: 25 for a value that is no reading, "first below the job"; 31 where a table which they need is damaged; or the attributes
 unfoldable pub read_attributes : ℕ → List ℕ → ℕ → FontAttributes

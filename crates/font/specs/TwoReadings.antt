@@ -6,7 +6,7 @@ use Rattle.std.specs.Float.Ieee.{fits, eq, neg}
 use Rattle.std.specs.Float.Ieee.Scale.{finite}
 use Rattle.font.specs.declared.attributes.Angle.TheVariants.{Unstated, Degrees}
 use Rattle.font.specs.declared.attributes.FontStyle.TheVariants.{Normal, Italic, Oblique}
-use Rattle.font.specs.declared.font.FontAttributes.TheVariants.{Refused, Stated}
+use Rattle.font.specs.StatedAttributes.{Refused, Stated}
 use Rattle.font.specs.Single.{single, order_number, fixed_to_single}
 use Rattle.font.specs.Attributes.{attributes_of, default_attributes}
 use Rattle.font.specs.Tables.{u16_at, u32_at, table_data}

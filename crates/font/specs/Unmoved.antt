@@ -1,14 +1,14 @@
 -- Font reading as it was when "A table reaching past the file, or shorter than needed, is absent.", and what has moved since: a font that
 -- loses a table that its attributes need is refused by 31. Any other is read as before; axes and charmap index always are. So under each reading. Proved in
 -- proofs/Unmoved.antt.
-use Rattle.std.specs.Prelude.{ℕ, ◌+◌, ◌≡◌, true, false, ◌&&◌, cond, List, length, leb, ltb, eqb}
+use Rattle.std.specs.Prelude.{ℕ, ◌+◌, ◌≡◌, true, false, ◌&&◌, cond, List, length, leb, ltb, eqb, Option}
+use Rattle.font.specs.declared.charmap.CharmapIndex.{CharmapIndex}
 use Rattle.font.specs.declared.tables.Table.{Table}
 use Rattle.font.specs.declared.tables.Table.TheVariants.{Absent, Found}
-use Rattle.font.specs.declared.charmap.Charmap.{Charmap}
 use Rattle.font.specs.declared.attributes.Attributes.{Attributes}
-use Rattle.font.specs.declared.font.FontAttributes.TheVariants.{Refused, Stated}
+use Rattle.font.specs.StatedAttributes.{Refused, Stated}
 use Rattle.font.specs.declared.font.FontInfo.{FontInfo}
-use Rattle.font.specs.declared.font.Checked.{Checked}
+use Rattle.font.specs.Refusals.{Checked}
 use Rattle.font.specs.Attributes.{default_attributes}
 use Rattle.font.specs.Tables.{record_count, record_offset, record_length, directory_fits, first_record, part_of}
 use Rattle.font.specs.Collection.{header_fits, font_count, font_start}
@@ -43,7 +43,7 @@ attributes_before reading file start =
 unfoldable pub fvar_before : List ℕ → ℕ → List ℕ
 fvar_before file start = data_before file start 0x66766172 16
 
-unfoldable pub charmap_before : List ℕ → ℕ → Charmap
+unfoldable pub charmap_before : List ℕ → ℕ → Option CharmapIndex
 charmap_before file start = index_in file (table_before file start 0x636D6170 4)
 
 -- the refusals: 21, 22, 23, and 30 by the number

@@ -4,7 +4,8 @@ ghost use Rattle.font.specs.Attributes.{attributes_of, accepted_angle, accepted_
 
 use crate::single;
 
-// The angle of an oblique style, in degrees, or none stated.
+// The angle of an oblique style, in degrees, or none stated. No `Option`: unstated is a kind of angle of its own, which ranks and
+// synthesizes as 14 degrees.
 #[derive(Clone, Copy)]
 pub enum Angle {
     Unstated,
@@ -75,30 +76,28 @@ impl Attributes {
     }
 
     // Whether its numbers are accepted: the ratio 0 to 16, the angle and the weight finite.
+    #[tactic(auto, unfolding(crate::specs::Attributes::accepted_attributes))]
     pub fn accepted(self) -> bool
         ensures { result ≡ accepted_attributes self }
     {
-        let style = self.style;
-        if single::is_ratio(self.width.ratio) {
-            if style_accepted(style) {
-                return single::is_finite(self.weight.value);
-            }
-        }
-        false
+        single::is_ratio(self.width.ratio)
+            && style_accepted(self.style)
+            && single::is_finite(self.weight.value)
     }
 }
 
 // Whether the angle of a style, if it states one, is finite.
+#[tactic(auto, unfolding(crate::specs::Attributes::accepted_style))]
 pub(crate) fn style_accepted(style: FontStyle) -> bool
     ensures { result ≡ accepted_style style }
 {
     match style {
         FontStyle::Oblique(angle) => angle_accepted(angle),
-        FontStyle::Normal => true,
-        FontStyle::Italic => true,
+        FontStyle::Normal | FontStyle::Italic => true,
     }
 }
 
+#[tactic(auto, unfolding(crate::specs::Attributes::accepted_angle))]
 fn angle_accepted(angle: Angle) -> bool
     ensures { result ≡ accepted_angle angle }
 {

@@ -1,13 +1,16 @@
 // The charmap index: which `cmap` subtable maps characters to glyphs.
-ghost use Rattle.std.specs.Prelude.{◌≡◌, true, ◌+◌, ◌*◌, ◌^◌, ◌≤◌, ◌<◌, length, ltb};
-ghost use Rattle.font.specs.Tables.{directory_fits};
+ghost use Rattle.std.specs.Prelude.{◌≡◌, Some, ◌+◌, ◌-◌, ◌*◌, ◌/◌, ◌^◌, ◌≤◌, ◌<◌, min, length, ltb, IfSome};
+ghost use Rattle.font.specs.Tables.{u16_at};
 ghost use Rattle.font.specs.Collection.{font_start};
-ghost use Rattle.font.specs.Charmap.{class_of, qualifies, record_class, some_qualifies, best_class, best_record, index_of, charmap_index_of};
+ghost use Rattle.font.specs.Charmap.{class_number, best_number, class_of, record_class, some_qualifies, best_class, best_record, index_of, charmap_index_of};
 ghost use Rattle.font.specs.Font.{has_index};
 
 use crate::collection::font_start;
 use crate::tables;
-use crate::tables::Table;
+use crate::tables::{Directory, Table};
+
+// The tag of the table.
+const CMAP: u32 = 0x636D_6170;
 
 // The file offset of a subtable, and what its encoding asks of a lookup.
 #[derive(Clone, Copy)]
@@ -17,70 +20,44 @@ pub struct CharmapIndex {
     pub is_mac_roman: bool,
 }
 
-#[derive(Clone, Copy)]
-pub enum Charmap {
-    Missing,
-    Index(CharmapIndex),
+// The classes of encoding records, the best first.
+#[derive(Clone, Copy, PartialEq, Eq, PartialOrd, Ord)]
+enum Class {
+    Full,
+    Basic,
+    Symbol,
+    MacRoman,
 }
 
 // A record of `cmap` and its class.
 #[derive(Clone, Copy)]
 struct BestRecord {
-    class: u8,
+    class: Class,
     i: usize,
 }
 
-// The class of an encoding record, 0 the best; 4 stands for none.
-fn class_of(platform: u16, encoding: u16) -> u8
-    ensures { result ≡ class_of platform encoding }
+#[tactic(auto, unfolding(crate::specs::Charmap::class_of, crate::specs::Charmap::is_pair, crate::specs::Charmap::class_number))]
+fn class_of(platform: u16, encoding: u16) -> Option<Class>
+    ensures { class_number result ≡ class_of platform encoding }
 {
-    if platform == 0 {
-        if encoding < 4 {
-            return 1;
-        }
-        if encoding == 4 {
-            return 0;
-        }
-        if encoding == 6 {
-            return 0;
-        }
-        return 4;
+    match (platform, encoding) {
+        (3, 10) | (0, 4) | (0, 6) => Some(Class::Full),
+        (3, 1) | (0, 0..=3) => Some(Class::Basic),
+        (3, 0) => Some(Class::Symbol),
+        (1, 0) => Some(Class::MacRoman),
+        _ => None,
     }
-    if platform == 1 {
-        if encoding == 0 {
-            return 3;
-        }
-        return 4;
-    }
-    if platform == 3 {
-        return windows_class(encoding);
-    }
-    4
 }
 
-fn windows_class(encoding: u16) -> u8
-    ensures { result ≡ class_of 3 encoding }
-{
-    if encoding == 10 {
-        return 0;
-    }
-    if encoding == 1 {
-        return 1;
-    }
-    if encoding == 0 {
-        return 2;
-    }
-    4
-}
-
-// The class of a record that lies in the table; 4 where its subtable's format does not.
-fn record_class(cmap: &[u8], i: usize) -> u8
+// The class of a record that lies in the table; none where its subtable's format does not.
+#[tactic(auto, using(crate::proofs::Records::class_in), unfolding(crate::specs::Charmap::class_number, crate::specs::Charmap::record_class, crate::specs::Charmap::qualifies, crate::specs::Charmap::lies_in, crate::specs::Charmap::pair_class, crate::specs::Charmap::subtable_offset_of))]
+fn record_class(cmap: &[u8], i: usize) -> Option<Class>
     requires { 12 + 8 * i ≤ length cmap.now }
-    ensures { result ≡ record_class cmap.now i }
+    ensures { class_number result ≡ record_class cmap.now i }
 {
     let offset = tables::u32_in(cmap, 8 + 8 * i) as usize;
     if cmap.len() < offset + 2 {
-        return 4;
+        return None;
     }
     class_of(
         tables::u16_in(cmap, 4 + 8 * i),
@@ -88,90 +65,66 @@ fn record_class(cmap: &[u8], i: usize) -> u8
     )
 }
 
-// The first record of the best class.
-fn best_record(cmap: &[u8]) -> BestRecord
-    requires { 4 ≤ length cmap.now }
-    ensures { (result.class ≡ best_class cmap.now) × (result.class < 4 → result.i ≡ best_record cmap.now) × (result.i < 65536) }
+// Whether a class is better than the best so far.
+#[tactic(auto, using(crate::proofs::Records::class_low, crate::proofs::Records::class_order), unfolding(crate::specs::Charmap::best_number))]
+fn is_better(class: Class, best: Option<BestRecord>) -> bool
+    ensures { result ≡ ltb (class_number (Some class)) (best_number best) }
 {
-    let count = tables::u16_at(cmap, 2) as usize;
-    let whole = (cmap.len() - 4) / 8;
-    let mut best = BestRecord { class: 4, i: count };
-    let mut i: usize = 0;
-    while i < count {
-        if whole <= i {
-            return best;
+    match best {
+        Some(best) => class < best.class,
+        None => true,
+    }
+}
+
+// The number of the first records that are looked at: those that the table states and that lie whole in it.
+fn whole_records(cmap: &[u8]) -> usize
+    requires { 4 ≤ length cmap.now }
+    ensures { result ≡ min (u16_at cmap.now 2) ((length cmap.now - 4) / 8) }
+{
+    let count = tables::u16_in(cmap, 2) as usize;
+    count.min((cmap.len() - 4) / 8)
+}
+
+// The first record of the best class.
+fn best_record(cmap: &[u8]) -> Option<BestRecord>
+    requires { 4 ≤ length cmap.now }
+    ensures { (best_number result ≡ best_class cmap.now) × IfSome result (λ b. (b.i ≡ best_record cmap.now) × (12 + 8 * b.i ≤ length cmap.now)) }
+{
+    let mut best: Option<BestRecord> = None;
+    for i in 0..whole_records(cmap) {
+        if let Some(class) = record_class(cmap, i) {
+            if is_better(class, best) {
+                best = Some(BestRecord { class, i });
+            }
         }
-        let class = record_class(cmap, i);
-        if class < best.class {
-            best = BestRecord { class, i };
-        }
-        i += 1;
     }
     best
 }
 
 // The index of the best record of a `cmap` table that lies at `offset` in the file.
-fn index_of(offset: usize, cmap: &[u8]) -> Charmap
+fn index_of(offset: usize, cmap: &[u8]) -> Option<CharmapIndex>
     requires { (offset < 2 ^ 63) × (4 ≤ length cmap.now) }
     ensures { result ≡ index_of offset cmap.now }
 {
-    let best = best_record(cmap);
-    if best.class < 4 {
-        let subtable = tables::u32_at(cmap, 8 + 8 * best.i) as usize;
-        return Charmap::Index(CharmapIndex {
-            subtable_offset: offset + subtable,
-            is_symbol: best.class == 2,
-            is_mac_roman: best.class == 3,
-        });
-    }
-    Charmap::Missing
+    let best = best_record(cmap)?;
+    let subtable = tables::u32_in(cmap, 8 + 8 * best.i) as usize;
+    Some(CharmapIndex {
+        subtable_offset: offset + subtable,
+        is_symbol: best.class == Class::Symbol,
+        is_mac_roman: best.class == Class::MacRoman,
+    })
 }
 
-// The charmap index of a font whose directory, at `start`, fits.
-pub(crate) fn index_in(file: &[u8], start: usize) -> Charmap
-    requires { directory_fits file.now start ≡ true }
-    ensures { result ≡ charmap_index_of file.now start }
+// The charmap index of a font.
+pub(crate) fn index_in(directory: Directory) -> Option<CharmapIndex>
+    ensures { result ≡ charmap_index_of directory.entry.file.now directory.entry.start }
 {
-    match tables::table_in(file, start, 0x636D_6170, 4) {
-        Table::Found { offset, length } => index_of(offset, &file[offset..offset + length]),
-        Table::Damaged => Charmap::Missing,
-        Table::Absent => Charmap::Missing,
+    match directory.find(CMAP, 4) {
+        Table::Found { offset, length } => {
+            index_of(offset, &directory.file[offset..offset + length])
+        }
+        Table::Damaged | Table::Absent => None,
     }
-}
-
-// Whether an encoding record is of a class. The two numbers are compared as one.
-fn has_class(platform: u16, encoding: u16) -> bool
-    ensures { result ≡ ltb (class_of platform encoding) 4 }
-{
-    let pair = (platform as u32) * 65536 + encoding as u32;
-    if pair < 7 {
-        return pair != 5;
-    }
-    if pair == 0x0003_0001 {
-        return true;
-    }
-    if pair == 0x0003_000A {
-        return true;
-    }
-    if pair == 0x0003_0000 {
-        return true;
-    }
-    pair == 0x0001_0000
-}
-
-// Whether a record that lies in the table qualifies.
-fn record_qualifies(cmap: &[u8], i: usize) -> bool
-    requires { 12 + 8 * i ≤ length cmap.now }
-    ensures { result ≡ qualifies cmap.now i }
-{
-    let offset = tables::u32_in(cmap, 8 + 8 * i) as usize;
-    if cmap.len() < offset + 2 {
-        return false;
-    }
-    has_class(
-        tables::u16_in(cmap, 4 + 8 * i),
-        tables::u16_in(cmap, 6 + 8 * i),
-    )
 }
 
 // Whether a record qualifies. The first that does ends the search.
@@ -181,38 +134,35 @@ fn some_qualifies(cmap: &[u8]) -> bool
     if cmap.len() < 4 {
         return false;
     }
-    let records = tables::u16_in(cmap, 2) as usize;
-    let whole = (cmap.len() - 4) / 8;
-    let mut i: usize = 0;
-    while i < records {
-        if whole <= i {
-            return false;
-        }
-        if record_qualifies(cmap, i) {
+    for i in 0..whole_records(cmap) {
+        if record_class(cmap, i).is_some() {
             return true;
         }
-        i += 1;
     }
     false
 }
 
-// Whether a font whose directory, at `start`, fits has a charmap index.
-pub(crate) fn has_index_in(file: &[u8], start: usize) -> bool
-    requires { directory_fits file.now start ≡ true }
-    ensures { result ≡ has_index (charmap_index_of file.now start) }
+// Whether a font has a charmap index.
+#[tactic(auto, using(crate::proofs::Records::font_has))]
+pub(crate) fn has_index_in(directory: Directory) -> bool
+    ensures { result ≡ has_index (charmap_index_of directory.entry.file.now directory.entry.start) }
 {
-    some_qualifies(tables::data_in(file, start, 0x636D_6170, 4))
+    some_qualifies(directory.data_for_tag(CMAP, 4))
 }
 
 impl CharmapIndex {
+    // The zeros that stand for none.
+    pub const NONE: CharmapIndex = CharmapIndex {
+        subtable_offset: 0,
+        is_symbol: false,
+        is_mac_roman: false,
+    };
+
     // The charmap index of the font of a number.
-    pub fn new(file: &[u8], number: u16) -> Charmap
+    #[tactic(auto, unfolding(crate::specs::Charmap::charmap_index_of, crate::specs::Charmap::index_in, crate::specs::Tables::find_table))]
+    pub fn new(file: &[u8], number: u16) -> Option<CharmapIndex>
         ensures { result ≡ charmap_index_of file.now (font_start file.now number) }
     {
-        let start = font_start(file, number);
-        if tables::directory_fits(file, start) {
-            return index_in(file, start);
-        }
-        Charmap::Missing
+        index_in(Directory::at(file, font_start(file, number))?)
     }
 }

@@ -1,17 +1,20 @@
 // Model for a font.
-ghost use Rattle.std.specs.Prelude.{◌≡◌, true, cond, ◌<◌, ◌≤◌, leb, eqb};
-ghost use Rattle.font.specs.First.{first};
-ghost use Rattle.font.specs.StatedAttributes.{width_of_class, post_angle, os2_style, from_os2_post, head_style, head_weight, from_head, from_tables, needs_post, loses_needed, read_attributes};
-ghost use Rattle.font.specs.Tables.{u32_at, directory_fits, table_data};
-ghost use Rattle.font.specs.Charmap.{charmap_index_of};
+ghost use Rattle.std.specs.Prelude.{◌≡◌, cond, ◌<◌, ◌≤◌, leb, eqb};
+ghost use Rattle.font.specs.First.{some};
+ghost use Rattle.font.specs.Refusals.{refusal_in, checked};
+ghost use Rattle.font.specs.Slant.{reading_number};
+ghost use Rattle.font.specs.StatedAttributes.{width_of_class, post_angle, os2_style, from_os2_post, head_style, head_weight, from_head, from_tables, needs_post, loses_needed, read_attributes, stated_in};
+ghost use Rattle.font.specs.Tables.{table_data};
 ghost use Rattle.font.specs.Collection.{font_start};
-ghost use Rattle.font.specs.Font.{fvar_of, axis_count_of, axis_at, axes_of, no_index, index_or, empty_font, refusal_at, font_refusal, refusal_under, face_of, from_font_ref, states_axis, stated_at};
+ghost use Rattle.font.specs.Font.{fvar_of, axis_count_of, axis_at, axes_of, empty_font, refusal_at, font_refusal, refusal_under, face_of, from_font_ref, states_axis, stated_at};
 
 use crate::attributes::{Angle, Attributes, FontStyle, FontWeight, FontWidth};
-use crate::charmap::{Charmap, CharmapIndex};
+use crate::charmap::CharmapIndex;
 use crate::collection::{font_beginning, font_count, font_start};
-use crate::tables::Table;
-use crate::{charmap, single, slant, tables};
+use crate::refusal::Refusal;
+use crate::slant::Reading;
+use crate::tables::{Directory, Table};
+use crate::{charmap, single, tables};
 
 // The tags of the tables that are read.
 const OS2: u32 = 0x4F53_2F32;
@@ -43,28 +46,14 @@ impl AxisInfo {
     };
 }
 
-// A face by value. Axes past the count are no part of it.
+// A face by value. Axes past the count are no part of it: the array is fixed, since there is no heap, and calls on a face refuse a
+// larger count.
 #[derive(Clone, Copy)]
 pub struct FontInfo {
     pub attributes: Attributes,
     pub axes: [AxisInfo; 16],
     pub axis_count: usize,
     pub charmap_index: CharmapIndex,
-}
-
-// A face, and the number of the refusal, 0 for none. A face beside a refusal is not to be used.
-#[derive(Clone, Copy)]
-pub struct Checked {
-    pub refusal: u8,
-    pub font: FontInfo,
-}
-
-// What a font says of its attributes, or the number of the refusal: 25 for no reading, 31 where a table which they need is
-// damaged.
-#[derive(Clone, Copy)]
-pub enum FontAttributes {
-    Refused(u8),
-    Stated(Attributes),
 }
 
 // What the choice of a face looks at in a font.
@@ -84,43 +73,44 @@ fn width_from_width_class(class: u16) -> FontWidth
     }
 }
 
-fn post_angle(post: &[u8], reading: u32) -> Angle
-    ensures { result ≡ post_angle reading post.now }
+#[tactic(auto, unfolding(crate::specs::StatedAttributes::present, crate::specs::StatedAttributes::post_angle))]
+fn post_angle(post: &[u8], reading: Reading) -> Angle
+    ensures { result ≡ post_angle (reading_number reading) post.now }
 {
     if 0 < post.len() {
         let angle = single::fixed_to_single(tables::u32_at(post, 4));
-        Angle::Degrees(slant::slant_under(reading, angle))
+        Angle::Degrees(reading.slant(angle))
     } else {
         Angle::Unstated
     }
 }
 
 // The `post` table is looked up for an oblique face alone.
-fn os2_style(file: &[u8], reading: u32, start: usize, os2: &[u8]) -> FontStyle
-    requires { directory_fits file.now start ≡ true }
-    ensures { result ≡ os2_style reading os2.now (table_data file.now start 0x706F7374 32) }
+#[tactic(auto, using(crate::proofs::Classes::lowest, crate::proofs::Classes::ninth), unfolding(crate::specs::StatedAttributes::os2_style))]
+fn os2_style(directory: Directory, reading: Reading, os2: &[u8]) -> FontStyle
+    ensures { result ≡ os2_style (reading_number reading) os2.now (table_data directory.entry.file.now directory.entry.start 0x706F7374 32) }
 {
     let selection = tables::u16_at(os2, 62);
     if selection % 2 == 1 {
-        return FontStyle::Italic;
+        FontStyle::Italic
+    } else if selection / 512 % 2 == 1 {
+        FontStyle::Oblique(post_angle(directory.data_for_tag(POST, 32), reading))
+    } else {
+        FontStyle::Normal
     }
-    if selection / 512 % 2 == 1 {
-        let post = tables::data_in(file, start, POST, 32);
-        return FontStyle::Oblique(post_angle(post, reading));
-    }
-    FontStyle::Normal
 }
 
-fn from_os2_post(file: &[u8], reading: u32, start: usize, os2: &[u8]) -> Attributes
-    requires { directory_fits file.now start ≡ true }
-    ensures { result ≡ from_os2_post reading os2.now (table_data file.now start 0x706F7374 32) }
+#[tactic(auto, unfolding(crate::specs::StatedAttributes::from_os2_post, crate::specs::Single::single))]
+fn from_os2_post(directory: Directory, reading: Reading, os2: &[u8]) -> Attributes
+    ensures { result ≡ from_os2_post (reading_number reading) os2.now (table_data directory.entry.file.now directory.entry.start 0x706F7374 32) }
 {
     let width = width_from_width_class(tables::u16_at(os2, 6));
-    let style = os2_style(file, reading, start, os2);
+    let style = os2_style(directory, reading, os2);
     let weight = FontWeight::new(tables::u16_at(os2, 4) as f32);
     Attributes::new(width, style, weight)
 }
 
+#[tactic(auto, unfolding(crate::specs::StatedAttributes::head_style, crate::specs::StatedAttributes::bit))]
 fn head_style(mac_style: u16) -> FontStyle
     ensures { result ≡ head_style mac_style }
 {
@@ -150,16 +140,16 @@ fn from_head(head: &[u8]) -> Attributes
     Attributes::new(FontWidth::NORMAL, style, weight)
 }
 
-// The attributes by OS/2, else by `head`, else the defaults. Whether a table that they need is damaged is for `loses_needed` to say.
-fn from_tables(file: &[u8], reading: u32, start: usize) -> Attributes
-    requires { directory_fits file.now start ≡ true }
-    ensures { result ≡ from_tables reading file.now start }
+// The attributes by OS/2, else by `head`, else the defaults. Whether a table that they need is damaged is for `loses_needed` to
+// say.
+fn from_tables(directory: Directory, reading: Reading) -> Attributes
+    ensures { result ≡ from_tables (reading_number reading) directory.entry.file.now directory.entry.start }
 {
-    let os2 = tables::data_in(file, start, OS2, 78);
+    let os2 = directory.data_for_tag(OS2, 78);
     if 0 < os2.len() {
-        return from_os2_post(file, reading, start, os2);
+        return from_os2_post(directory, reading, os2);
     }
-    let head = tables::data_in(file, start, HEAD, 54);
+    let head = directory.data_for_tag(HEAD, 54);
     if 0 < head.len() {
         return from_head(head);
     }
@@ -167,68 +157,59 @@ fn from_tables(file: &[u8], reading: u32, start: usize) -> Attributes
 }
 
 // Whether OS/2 needs the angle of `post`: bit 9 is set and bit 0 is not.
+#[tactic(auto, using(crate::proofs::Classes::lowest, crate::proofs::Classes::ninth), unfolding(crate::specs::StatedAttributes::needs_post))]
 fn needs_post(os2: &[u8]) -> bool
     ensures { result ≡ needs_post os2.now }
 {
     let selection = tables::u16_at(os2, 62);
-    if selection % 2 == 1 {
-        return false;
-    }
-    selection / 512 % 2 == 1
+    selection % 2 == 0 && selection / 512 % 2 == 1
 }
 
-// Whether a table that the attributes need is damaged; of a font whose directory fits.
-fn loses_needed(file: &[u8], start: usize) -> bool
-    requires { directory_fits file.now start ≡ true }
-    ensures { result ≡ loses_needed file.now start }
+// Whether a table that the attributes need is damaged.
+#[tactic(auto, using(crate::proofs::Lookup::within, crate::proofs::Needed::by_post, crate::proofs::Needed::by_none, crate::proofs::Needed::by_os2, crate::proofs::Needed::by_head))]
+fn loses_needed(directory: Directory) -> bool
+    ensures { result ≡ loses_needed directory.entry.file.now directory.entry.start }
 {
-    match tables::table_in(file, start, OS2, 78) {
+    match directory.find(OS2, 78) {
         Table::Found { offset, length } => {
-            if needs_post(&file[offset..offset + length]) {
-                tables::is_damaged(file, start, POST, 32)
-            } else {
-                false
-            }
+            needs_post(&directory.file[offset..offset + length]) && directory.is_damaged(POST, 32)
         }
         Table::Damaged => true,
-        Table::Absent => tables::is_damaged(file, start, HEAD, 54),
+        Table::Absent => directory.is_damaged(HEAD, 54),
     }
 }
 
 // The attributes that the font of a number states under a reading: OS/2's before `head`'s before the defaults; or a refusal.
-pub fn read_attributes(file: &[u8], reading: u32, number: u16) -> FontAttributes
-    ensures { result ≡ read_attributes reading file.now (font_start file.now number) }
+#[tactic(auto, using(std::proofs::lemmas::Result::err_from_is_err_and, crate::proofs::Readings::stated_none, crate::proofs::Readings::stated_lost, crate::proofs::Readings::stated_kept))]
+pub fn read_attributes(file: &[u8], reading: u32, number: u16) -> Result<Attributes, Refusal>
+    ensures { stated_in result ≡ read_attributes reading file.now (font_start file.now number) }
 {
-    if !slant::is_reading(reading) {
-        return FontAttributes::Refused(25);
+    let reading = Reading::try_from(reading)?;
+    let Some(directory) = Directory::at(file, font_start(file, number)) else {
+        return Ok(Attributes::DEFAULT);
+    };
+    if loses_needed(directory) {
+        Err(Refusal::DamagedTable)
+    } else {
+        Ok(from_tables(directory, reading))
     }
-    let start = font_start(file, number);
-    if tables::directory_fits(file, start) {
-        if loses_needed(file, start) {
-            return FontAttributes::Refused(31);
-        }
-        return FontAttributes::Stated(from_tables(file, reading, start));
-    }
-    FontAttributes::Stated(Attributes::DEFAULT)
 }
 
 // The number of axes that an `fvar` table gives.
+#[tactic(auto, using(crate::proofs::Fields::out16), unfolding(crate::specs::Font::axis_count_of, crate::specs::StatedAttributes::present))]
 fn axis_count(fvar: &[u8]) -> usize
     ensures { (result ≡ axis_count_of fvar.now) × (result < 65536) }
 {
-    if fvar.len() == 0 {
-        return 0;
+    let offset = tables::u16_at(fvar, 4) as usize;
+    let count = tables::u16_at(fvar, 8) as usize;
+    if tables::u16_at(fvar, 10) == 20 && offset + 20 * count <= fvar.len() {
+        count
+    } else {
+        0
     }
-    if tables::u16_at(fvar, 10) == 20 {
-        let offset = tables::u16_at(fvar, 4) as usize;
-        let count = tables::u16_at(fvar, 8) as usize;
-        if offset + 20 * count <= fvar.len() {
-            return count;
-        }
-    }
-    0
 }
 
+#[tactic(auto, unfolding(crate::specs::Font::axis_at))]
 fn axis_at(fvar: &[u8], i: usize) -> AxisInfo
     requires { i < 65536 }
     ensures { result ≡ axis_at fvar.now i }
@@ -248,10 +229,8 @@ fn read_axes(fvar: &[u8], count: usize) -> [AxisInfo; 16]
     ensures { result ≡ axes_of fvar.now count }
 {
     let mut axes = [AxisInfo::NONE; 16];
-    let mut i: usize = 0;
-    while i < count {
+    for i in 0..count {
         axes[i] = axis_at(fvar, i);
-        i += 1;
     }
     axes
 }
@@ -261,154 +240,119 @@ impl FontInfo {
         attributes: Attributes::DEFAULT,
         axes: [AxisInfo::NONE; 16],
         axis_count: 0,
-        charmap_index: CharmapIndex {
-            subtable_offset: 0,
-            is_symbol: false,
-            is_mac_roman: false,
-        },
+        charmap_index: CharmapIndex::NONE,
     };
 
     // The face of the font of a number under a reading, or the refusal 21, 22, 23, 25, 30 or 31.
-    pub fn from_font_ref(file: &[u8], reading: u32, number: u16) -> Checked
-        ensures { result ≡ from_font_ref reading file.now number }
+    #[tactic(auto, using(std::proofs::lemmas::Result::err_from_is_err_and, crate::proofs::FaceOf::answered_none, crate::proofs::FaceOf::answered_font, crate::proofs::FaceOf::not_refused, crate::proofs::FaceOf::answered_face), unfolding(crate::specs::Refusals::refusal_in))]
+    pub fn from_font_ref(file: &[u8], reading: u32, number: u16) -> Result<FontInfo, Refusal>
+        ensures { checked empty_font result ≡ from_font_ref reading file.now number }
     {
-        let refusal = refusal_under(file, reading, number);
-        if refusal == 0 {
-            let font = read_font(file, reading, number);
-            return Checked { refusal, font };
-        }
-        Checked {
-            refusal,
-            font: FontInfo::EMPTY,
-        }
-    }
-}
-
-// The charmap index of a font whose directory, at `start`, fits; zeros where it has none.
-fn index_or_none(file: &[u8], start: usize) -> CharmapIndex
-    requires { directory_fits file.now start ≡ true }
-    ensures { result ≡ index_or no_index (charmap_index_of file.now start) }
-{
-    match charmap::index_in(file, start) {
-        Charmap::Index(index) => index,
-        Charmap::Missing => CharmapIndex {
-            subtable_offset: 0,
-            is_symbol: false,
-            is_mac_roman: false,
-        },
+        let reading = Reading::try_from(reading)?;
+        font_refusal(file, number)?;
+        Ok(read_font(file, reading, number))
     }
 }
 
 // The face of the font of a number under a reading, which `from_font_ref` does not refuse.
-pub fn read_font(file: &[u8], reading: u32, number: u16) -> FontInfo
-    requires { refusal_under reading file.now number ≡ 0 }
-    ensures { result ≡ face_of reading file.now (font_start file.now number) }
+pub fn read_font(file: &[u8], reading: Reading, number: u16) -> FontInfo
+    requires { refusal_under (reading_number reading) file.now number ≡ 0 }
+    ensures { result ≡ face_of (reading_number reading) file.now (font_start file.now number) }
 {
     let start = font_start(file, number);
-    let fvar = tables::data_in(file, start, FVAR, 16);
+    let directory = Directory { file, start };
+    let fvar = directory.data_for_tag(FVAR, 16);
     let count = axis_count(fvar);
-    let attributes = from_tables(file, reading, start);
-    let axes = read_axes(fvar, count);
-    let charmap_index = index_or_none(file, start);
     FontInfo {
-        attributes,
-        axes,
+        attributes: from_tables(directory, reading),
+        axes: read_axes(fvar, count),
         axis_count: count,
-        charmap_index,
+        charmap_index: charmap::index_in(directory).unwrap_or(CharmapIndex::NONE),
     }
 }
 
-// 23 for a font with over 16 axes, or 0. A table that states no more gives no more.
-fn axes_refusal(file: &[u8], start: usize) -> u8
-    requires { directory_fits file.now start ≡ true }
-    ensures { result ≡ cond (leb (axis_count_of (fvar_of file.now start)) 16) 0 23 }
+// Refuses a font with over 16 axes. A table that states no more gives no more.
+#[tactic(auto, using(crate::proofs::LookedAt::few_stated_fvar), unfolding(crate::specs::Font::fvar_of, crate::specs::Refusals::refusal_in, crate::specs::Refusals::number))]
+fn axes_refusal(directory: Directory) -> Result<(), Refusal>
+    ensures { refusal_in result ≡ cond (leb (axis_count_of (fvar_of directory.entry.file.now directory.entry.start)) 16) 0 23 }
 {
-    let fvar = tables::data_in(file, start, FVAR, 16);
-    if tables::u16_at(fvar, 8) <= 16 {
-        return 0;
+    let fvar = directory.data_for_tag(FVAR, 16);
+    if tables::u16_at(fvar, 8) <= 16 || axis_count(fvar) <= 16 {
+        Ok(())
+    } else {
+        Err(Refusal::ManyAxes)
     }
-    if 16 < axis_count(fvar) { 23 } else { 0 }
 }
 
-// The number with which the font whose directory begins at `start`, where the number `version` stands, is refused, or 0.
-fn refusal_at(file: &[u8], start: usize, version: u32) -> u8
-    requires { version ≡ u32_at file.now start }
-    ensures { result ≡ refusal_at file.now start }
+// Whether a font is refused for its tables.
+#[tactic(auto, unfolding(crate::specs::Font::refusal_at, crate::specs::Refusals::refusal_in, crate::specs::Refusals::number))]
+fn tables_refusal(directory: Directory) -> Result<(), Refusal>
+    ensures { refusal_in result ≡ refusal_at directory.entry.file.now directory.entry.start }
 {
-    if tables::fits_by(file, start, version) {
-        if loses_needed(file, start) {
-            return 31;
-        }
-        if charmap::has_index_in(file, start) {
-            return axes_refusal(file, start);
-        }
-        return 22;
+    if loses_needed(directory) {
+        return Err(Refusal::DamagedTable);
     }
-    21
+    if charmap::has_index_in(directory) {
+        axes_refusal(directory)
+    } else {
+        Err(Refusal::NoCharmap)
+    }
 }
 
-// The number with which the font of a number is refused under every reading, or 0. Of it `read_attributes` alone says one
-// itself, 31.
-pub fn font_refusal(file: &[u8], number: u16) -> u8
-    ensures { result ≡ font_refusal file.now number }
+// Whether the font of a number is refused, under every reading. Of its refusals `read_attributes` alone gives one itself,
+// that of a damaged table.
+#[tactic(auto, unfolding(crate::specs::Font::font_refusal, crate::specs::Collection::header_fits, crate::specs::Font::refusal_at, crate::specs::Refusals::refusal_in, crate::specs::Refusals::number))]
+pub fn font_refusal(file: &[u8], number: u16) -> Result<(), Refusal>
+    ensures { refusal_in result ≡ font_refusal file.now number }
 {
     if file.len() < 12 {
-        return 21;
+        return Err(Refusal::BadDirectory);
     }
     if (number as u32) < font_count(file) {
         let font = font_beginning(file, number);
-        return refusal_at(file, font.start, font.version);
+        match Directory::of_version(file, font.start, font.version) {
+            Some(directory) => tables_refusal(directory),
+            None => Err(Refusal::BadDirectory),
+        }
+    } else {
+        Err(Refusal::NoFont)
     }
-    30
 }
 
-// The number with which `from_font_ref` refuses: 25 for no reading, and then the font's own.
-fn refusal_under(file: &[u8], reading: u32, number: u16) -> u8
-    ensures { result ≡ refusal_under reading file.now number }
-{
-    if slant::is_reading(reading) {
-        return font_refusal(file, number);
-    }
-    25
-}
-
-// The first of `count` axis records with the tag, or the count where there is none.
-fn axis_record(fvar: &[u8], count: usize, tag: u32) -> usize
+// Whether one of `count` axis records has the tag.
+fn some_has_tag(fvar: &[u8], count: usize, tag: u32) -> bool
     requires { count < 65536 }
-    ensures { result ≡ first (λ i. eqb (axis_at fvar.now i).tag tag) count }
+    ensures { result ≡ some (λ i. eqb (axis_at fvar.now i).tag tag) count }
 {
     let offset = tables::u16_at(fvar, 4) as usize;
-    let mut i: usize = 0;
-    while i < count {
+    for i in 0..count {
         if tables::u32_at(fvar, offset + 20 * i) == tag {
-            return i;
+            return true;
         }
-        i += 1;
     }
-    count
+    false
 }
 
-// Whether a font whose directory, at `start`, fits gives an axis with the tag.
-fn states_axis(file: &[u8], start: usize, tag: u32) -> bool
-    requires { directory_fits file.now start ≡ true }
-    ensures { result ≡ states_axis file.now start tag }
+// Whether a font gives an axis with the tag.
+#[tactic(auto, using(crate::proofs::First::some_first), unfolding(crate::specs::Font::states_axis, crate::specs::Font::fvar_of))]
+fn states_axis(directory: Directory, tag: u32) -> bool
+    ensures { result ≡ states_axis directory.entry.file.now directory.entry.start tag }
 {
-    let fvar = tables::data_in(file, start, FVAR, 16);
-    let count = axis_count(fvar);
-    axis_record(fvar, count, tag) < count
+    let fvar = directory.data_for_tag(FVAR, 16);
+    some_has_tag(fvar, axis_count(fvar), tag)
 }
 
 // The attributes that the font of a number states under a reading, and whether it gives an axis with the tag.
 // `from_font_ref` does not refuse it.
-pub fn read_stated(file: &[u8], reading: u32, number: u16, tag: u32) -> Stated
-    requires { refusal_under reading file.now number ≡ 0 }
-    ensures { result ≡ stated_at reading file.now (font_start file.now number) tag }
+#[tactic(auto, using(crate::proofs::FaceOf::fits_taken), unfolding(crate::specs::Font::stated_at))]
+pub fn read_stated(file: &[u8], reading: Reading, number: u16, tag: u32) -> Stated
+    requires { refusal_under (reading_number reading) file.now number ≡ 0 }
+    ensures { result ≡ stated_at (reading_number reading) file.now (font_start file.now number) tag }
 {
     let start = font_start(file, number);
-    let attributes = from_tables(file, reading, start);
-    let has_axis = states_axis(file, start, tag);
+    let directory = Directory { file, start };
     Stated {
-        attributes,
-        has_axis,
+        attributes: from_tables(directory, reading),
+        has_axis: states_axis(directory, tag),
     }
 }

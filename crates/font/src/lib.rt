@@ -6,6 +6,7 @@ pub mod charmap;
 pub mod collection;
 pub mod font;
 pub mod overrides;
+pub mod refusal;
 pub mod single;
 pub mod slant;
 pub mod tables;

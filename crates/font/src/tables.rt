@@ -1,8 +1,9 @@
 // The table directory of an OpenType font, which begins at `start` in its file, and big-endian fields.
-ghost use Rattle.std.specs.Prelude.{◌≡◌, true, ◌+◌, ◌*◌, ◌^◌, ◌≤◌, ◌<◌, length};
-ghost use Rattle.font.specs.Tables.{u16_at, u32_at, swap_pair, swap_bytes, starts_as_font, directory_fits, first_record, table_of_record, find_table, table_data, handed_table, is_damaged};
+ghost use Rattle.std.specs.Prelude.{◌≡◌, true, false, ◌+◌, ◌*◌, ◌^◌, ◌≤◌, ◌<◌, length, MatchOption};
+ghost use Rattle.font.specs.Tables.{u16_at, u32_at, swap_bytes, starts_as_font, directory_fits, record_count, first_record, table_of_record, find_table, table_data, handed_table, is_damaged};
 
-// What lookup answers of a tag: no record has it; the first record with it reaches past the file or is too short; or where its table lies.
+// What lookup answers of a tag: no record has it; the first record with it reaches past the file or is too short; or where its
+// table lies.
 #[derive(Clone, Copy)]
 pub(crate) enum Table {
     Absent,
@@ -10,12 +11,14 @@ pub(crate) enum Table {
     Found { offset: usize, length: usize },
 }
 
+// Fields have a function for each size: one over the size would have each call name it.
+
 // The 16-bit field at a position where it lies whole in the bytes.
 pub(crate) fn u16_in(s: &[u8], at: usize) -> u16
     requires { at + 2 ≤ length s.now }
     ensures { result ≡ u16_at s.now at }
 {
-    (s[at] as u16) * 256 + s[at + 1] as u16
+    u16::from_be_bytes([s[at], s[at + 1]])
 }
 
 // The 32-bit field at a position where it lies whole in the bytes.
@@ -23,88 +26,7 @@ pub(crate) fn u32_in(s: &[u8], at: usize) -> u32
     requires { at + 4 ≤ length s.now }
     ensures { result ≡ u32_at s.now at }
 {
-    (u16_in(s, at) as u32) * 65536 + u16_in(s, at + 2) as u32
-}
-
-// The 16-bit field at a position, or 0 where it does not lie whole in the bytes.
-pub fn u16_at(s: &[u8], at: usize) -> u16
-    ensures { result ≡ u16_at s.now at }
-{
-    if s.len() < 2 {
-        return 0;
-    }
-    if s.len() - 2 < at {
-        return 0;
-    }
-    u16_in(s, at)
-}
-
-// The 32-bit field at a position, or 0 where it does not lie whole in the bytes.
-pub fn u32_at(s: &[u8], at: usize) -> u32
-    ensures { result ≡ u32_at s.now at }
-{
-    if s.len() < 4 {
-        return 0;
-    }
-    if s.len() - 4 < at {
-        return 0;
-    }
-    u32_in(s, at)
-}
-
-fn starts_as_font(version: u32) -> bool
-    ensures { result ≡ starts_as_font version }
-{
-    if version == 0x0001_0000 {
-        return true;
-    }
-    if version == 0x4F54_544F {
-        return true;
-    }
-    version == 0x7472_7565
-}
-
-// Whether a font starts at `start`, where the number `version` stands, and its directory lies in the file.
-pub(crate) fn fits_by(file: &[u8], start: usize, version: u32) -> bool
-    requires { version ≡ u32_at file.now start }
-    ensures { result ≡ directory_fits file.now start }
-{
-    if file.len() < 12 {
-        return false;
-    }
-    if file.len() - 12 < start {
-        return false;
-    }
-    if starts_as_font(version) {
-        let count = u16_in(file, start + 4) as usize;
-        count <= (file.len() - 12 - start) / 16
-    } else {
-        false
-    }
-}
-
-// As `fits_by`, where the version is yet to be read.
-pub(crate) fn directory_fits(file: &[u8], start: usize) -> bool
-    ensures { result ≡ directory_fits file.now start }
-{
-    fits_by(file, start, u32_at(file, start))
-}
-
-// A number with its bytes in the opposite order.
-fn swap_bytes(n: u32) -> u32
-    ensures { result ≡ swap_bytes n }
-{
-    let high = n / 65536;
-    let low = n % 65536;
-    high / 256 + high % 256 * 256 + (low / 256 + low % 256 * 256) * 65536
-}
-
-// The 16-bit field at a position, with its bytes in the opposite order.
-fn swapped_u16_in(s: &[u8], at: usize) -> u16
-    requires { at + 2 ≤ length s.now }
-    ensures { (result ≡ swap_pair (u16_at s.now at)) × (u16_at s.now at < 65536) }
-{
-    s[at] as u16 + (s[at + 1] as u16) * 256
+    u32::from_be_bytes([s[at], s[at + 1], s[at + 2], s[at + 3]])
 }
 
 // The 32-bit field at a position, with its bytes in the opposite order.
@@ -112,75 +34,130 @@ fn swapped_u32_in(s: &[u8], at: usize) -> u32
     requires { at + 4 ≤ length s.now }
     ensures { (result ≡ swap_bytes (u32_at s.now at)) × (u32_at s.now at < 2 ^ 32) }
 {
-    swapped_u16_in(s, at) as u32 + (swapped_u16_in(s, at + 2) as u32) * 65536
+    u32::from_le_bytes([s[at], s[at + 1], s[at + 2], s[at + 3]])
 }
 
-// The number of the first record with the tag, or the count of records where there is none; of a font whose directory fits.
-// Tags are compared in the order of the machine's bytes: the loop then turns none.
-fn first_record(file: &[u8], start: usize, tag: u32) -> usize
-    requires { directory_fits file.now start ≡ true }
-    ensures { result ≡ first_record file.now start tag }
+// The 16-bit field at a position, or 0 where it does not lie whole in the bytes.
+pub fn u16_at(s: &[u8], at: usize) -> u16
+    ensures { result ≡ u16_at s.now at }
 {
-    let count = u16_in(file, start + 4) as usize;
-    let wanted = swap_bytes(tag);
-    let mut i: usize = 0;
-    while i < count {
-        if swapped_u32_in(file, start + 12 + 16 * i) == wanted {
-            return i;
+    if s.len() < 2 || s.len() - 2 < at {
+        0
+    } else {
+        u16_in(s, at)
+    }
+}
+
+// The 32-bit field at a position, or 0 where it does not lie whole in the bytes.
+pub fn u32_at(s: &[u8], at: usize) -> u32
+    ensures { result ≡ u32_at s.now at }
+{
+    if s.len() < 4 || s.len() - 4 < at {
+        0
+    } else {
+        u32_in(s, at)
+    }
+}
+
+#[tactic(auto, unfolding(crate::specs::Tables::starts_as_font))]
+fn starts_as_font(version: u32) -> bool
+    ensures { result ≡ starts_as_font version }
+{
+    version == 0x0001_0000 || version == 0x4F54_544F || version == 0x7472_7565
+}
+
+// A font's directory, which begins at `start` and lies in the file.
+#[derive(Clone, Copy)]
+pub(crate) struct Directory<'a> {
+    pub(crate) file: &'a [u8],
+    pub(crate) start: usize,
+    ghost fits: { directory_fits file.now start ≡ true },
+}
+
+impl<'a> Directory<'a> {
+    // The directory at `start`, where the number `version` stands; none where no font starts or its directory does not lie in the
+    // file.
+    #[tactic(auto, using(crate::proofs::Lookup::fits, crate::proofs::Lookup::past_file, crate::proofs::Lookup::other_start, crate::proofs::Lookup::records_past))]
+    pub(crate) fn of_version(file: &'a [u8], start: usize, version: u32) -> Option<Self>
+        requires { version ≡ u32_at file.now start }
+        ensures { MatchOption result (directory_fits file.now start ≡ false) (λ d. (d.file.now ≡ file.now) × (d.start ≡ start)) }
+    {
+        if file.len() < 12 || file.len() - 12 < start || !starts_as_font(version) {
+            return None;
         }
-        i += 1;
+        let count = u16_in(file, start + 4) as usize;
+        if count <= (file.len() - 12 - start) / 16 {
+            Some(Directory { file, start })
+        } else {
+            None
+        }
     }
-    count
-}
 
-// The table of a record that lies in the file: found if the table lies there too and has at least `least` bytes.
-fn table_of_record(file: &[u8], start: usize, least: usize, i: usize) -> Table
-    requires { start + 28 + 16 * i ≤ length file.now }
-    ensures { result ≡ table_of_record file.now start least i }
-{
-    let offset = u32_in(file, start + 20 + 16 * i) as usize;
-    let length = u32_in(file, start + 24 + 16 * i) as usize;
-    if length < least {
-        return Table::Damaged;
+    // As `of_version`, where the version is yet to be read.
+    pub(crate) fn at(file: &'a [u8], start: usize) -> Option<Self>
+        ensures { MatchOption result (directory_fits file.now start ≡ false) (λ d. (d.file.now ≡ file.now) × (d.start ≡ start)) }
+    {
+        Directory::of_version(file, start, u32_at(file, start))
     }
-    if file.len() < offset + length {
-        return Table::Damaged;
-    }
-    Table::Found { offset, length }
-}
 
-// The first table with the tag, which needs at least `least` bytes; of a font whose directory fits.
-pub(crate) fn table_in(file: &[u8], start: usize, tag: u32, least: usize) -> Table
-    requires { directory_fits file.now start ≡ true }
-    ensures { result ≡ find_table file.now start tag least }
-{
-    let i = first_record(file, start, tag);
-    if i < u16_in(file, start + 4) as usize {
-        return table_of_record(file, start, least, i);
+    // The number of the first record with the tag.
+    // Tags are compared in the order of the machine's bytes: the loop then turns none.
+    #[tactic(auto, using(crate::proofs::Lookup::records_inside), unfolding(crate::specs::Tables::record_count))]
+    fn first_record(self, tag: u32) -> Option<usize>
+        ensures { let count = record_count self.entry.file.now self.entry.start in MatchOption result (first_record self.entry.file.now self.entry.start tag ≡ count) (λ i. (i ≡ first_record self.entry.file.now self.entry.start tag) × (i < count)) }
+    {
+        let count = u16_in(self.file, self.start + 4) as usize;
+        let wanted = tag.swap_bytes();
+        for i in 0..count {
+            if swapped_u32_in(self.file, self.start + 12 + 16 * i) == wanted {
+                return Some(i);
+            }
+        }
+        None
     }
-    Table::Absent
-}
 
-// Whether the first table with the tag is damaged; of a font whose directory fits.
-pub(crate) fn is_damaged(file: &[u8], start: usize, tag: u32, least: usize) -> bool
-    requires { directory_fits file.now start ≡ true }
-    ensures { result ≡ is_damaged (handed_table file.now start tag least) }
-{
-    match table_in(file, start, tag, least) {
-        Table::Found { offset, length } => false,
-        Table::Damaged => true,
-        Table::Absent => false,
+    // The table of a record: found if the table lies in the file and has at least `least` bytes.
+    #[tactic(auto, using(crate::proofs::Lookup::records_inside), unfolding(crate::specs::Tables::record_count, crate::specs::Tables::table_of_record, crate::specs::Tables::record_offset, crate::specs::Tables::record_length))]
+    fn table_of_record(self, i: usize, least: usize) -> Table
+        requires { i < record_count self.file.now self.start }
+        ensures { result ≡ table_of_record self.entry.file.now self.entry.start least i }
+    {
+        let offset = u32_in(self.file, self.start + 20 + 16 * i) as usize;
+        let length = u32_in(self.file, self.start + 24 + 16 * i) as usize;
+        if length < least || self.file.len() < offset + length {
+            Table::Damaged
+        } else {
+            Table::Found { offset, length }
+        }
     }
-}
 
-// The found table as that part of the file and no other, and else the empty part. Of a font whose directory fits.
-pub(crate) fn data_in<'a>(file: &'a [u8], start: usize, tag: u32, least: usize) -> &'a [u8]
-    requires { directory_fits file.now start ≡ true }
-    ensures { result.now ≡ table_data file.now start tag least }
-{
-    match table_in(file, start, tag, least) {
-        Table::Found { offset, length } => &file[offset..offset + length],
-        Table::Damaged => &file[0..0],
-        Table::Absent => &file[0..0],
+    // The first table with the tag, which needs at least `least` bytes.
+    #[tactic(auto, unfolding(crate::specs::Tables::find_table))]
+    pub(crate) fn find(self, tag: u32, least: usize) -> Table
+        ensures { result ≡ find_table self.entry.file.now self.entry.start tag least }
+    {
+        match self.first_record(tag) {
+            Some(i) => self.table_of_record(i, least),
+            None => Table::Absent,
+        }
+    }
+
+    // Whether the first table with the tag is damaged.
+    #[tactic(auto, using(crate::proofs::Lookup::damage, crate::proofs::Lookup::no_damage))]
+    pub(crate) fn is_damaged(self, tag: u32, least: usize) -> bool
+        ensures { result ≡ is_damaged (handed_table self.entry.file.now self.entry.start tag least) }
+    {
+        matches!(self.find(tag, least), Table::Damaged)
+    }
+
+    // The found table as that part of the file and no other, and else the empty part.
+    #[tactic(auto, using(crate::proofs::Lookup::within, crate::proofs::Lookup::found_part, crate::proofs::Lookup::none_found))]
+    pub(crate) fn data_for_tag(self, tag: u32, least: usize) -> &'a [u8]
+        ensures { result.now ≡ table_data self.entry.file.now self.entry.start tag least }
+    {
+        match self.find(tag, least) {
+            Table::Found { offset, length } => &self.file[offset..offset + length],
+            Table::Damaged | Table::Absent => &[],
+        }
     }
 }

@@ -7,6 +7,7 @@ use std::io;
 use std::io::Read;
 
 // Reads standard input to its end, or until the space is full. Answers how many bytes were read.
+// A loop over reads: std's calls to the end of a reader want a `Vec`, or the length beforehand.
 pub fn read_full(rt: &impl Input, space: &mut [u8]) -> io::Result<usize>
     ensures { IfOk result (λ n. n ≤ length space.new) }
 {

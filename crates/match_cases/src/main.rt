@@ -9,29 +9,23 @@
 ghost use Rattle.std.specs.Prelude.{◌^◌, ◌<◌, ◌≤◌, IfOk};
 
 use font::attributes::{Angle, Attributes, FontStyle, FontWeight, FontWidth};
-use font::charmap::CharmapIndex;
 use font::font::{AxisInfo, FontInfo};
+use font::refusal::Refusal;
 use font::tables;
 use matching::face;
 use matching::family::FamilyInfo;
-use matching::matching::Choice;
+use matching::matching::{match_font, match_fonts};
 use matching::stages::Places;
 use matching::synthesis::Synthesis;
+use output::faces::Choice;
 use output::words;
 use std::io;
 use std::io::Read;
 
-// The charmap index of every face of the list, which has none.
-const NO_INDEX: CharmapIndex = CharmapIndex {
-    subtable_offset: 0,
-    is_symbol: false,
-    is_mac_roman: false,
-};
-
 // Reading. What lies past the end reads as zeros.
 
 fn byte_at(s: &[u8], at: usize) -> u8 {
-    if at < s.len() { s[at] } else { 0 }
+    s.get(at).copied().unwrap_or(0)
 }
 
 // The single of a bit pattern, or 0 for a NaN's, which the list does not hold.
@@ -83,13 +77,8 @@ fn axes_at(s: &[u8], at: usize, count: usize) -> [AxisInfo; 16]
     requires { at < 2 ^ 31 }
 {
     let mut axes = [AxisInfo::NONE; 16];
-    let mut i: usize = 0;
-    while i < 16 {
-        if count <= i {
-            return axes;
-        }
+    for i in 0..count.min(16) {
         axes[i] = axis_at(s, at + 16 * i);
-        i += 1;
     }
     axes
 }
@@ -98,14 +87,12 @@ fn axes_at(s: &[u8], at: usize, count: usize) -> [AxisInfo; 16]
 fn face_at(s: &[u8], at: usize) -> FontInfo
     requires { at < 2 ^ 30 }
 {
-    let attributes = attributes_at(s, at);
     let axis_count = byte_at(s, at + 13) as usize;
-    let axes = axes_at(s, at + 14, axis_count);
     FontInfo {
-        attributes,
-        axes,
+        attributes: attributes_at(s, at),
+        axes: axes_at(s, at + 14, axis_count),
         axis_count,
-        charmap_index: NO_INDEX,
+        ..FontInfo::EMPTY
     }
 }
 
@@ -130,52 +117,25 @@ fn faces_at(s: &[u8], start: usize, count: u8) -> Faces
 {
     let mut fonts = [FontInfo::EMPTY; 64];
     let mut at = start;
-    let mut i: u8 = 0;
-    while i < count {
+    for i in 0..count {
         if i < 64 {
             fonts[i as usize] = face_at(s, at);
         }
         at += face_length(s, at);
-        i += 1;
     }
     Faces { fonts, end: at }
 }
 
 // Printing.
 
-// A byte, and then a number.
-fn print_number(rt: &impl Print, before: u8, n: usize) -> io::Result<()> {
-    let lead = [before];
-    rt.write_all(&lead)?;
-    print!(rt; "{n}")
-}
-
-fn print_refused(rt: &impl Print, refusal: u8) -> io::Result<()> {
-    rt.write_all(b"refused")?;
-    print_number(rt, b' ', refusal as usize)
-}
-
-fn print_choice(rt: &impl Print, choice: Choice) -> io::Result<()> {
-    match choice {
-        Choice::Place(place) => print!(rt; "{place}"),
-        Choice::Nothing => rt.write_all(b"-"),
-        Choice::Refused(refusal) => print_refused(rt, refusal),
-    }
-}
-
 // The places, joined by commas.
-fn print_places(rt: &impl Print, places: [usize; 64], count: usize) -> io::Result<()> {
-    if count == 0 {
+fn print_places(rt: &impl Print, list: Places) -> io::Result<()> {
+    if list.count == 0 {
         return rt.write_all(b" -");
     }
-    print_number(rt, b' ', places[0])?;
-    let mut i: usize = 1;
-    while i < 64 {
-        if count <= i {
-            return Ok(());
-        }
-        print_number(rt, b',', places[i])?;
-        i += 1;
+    print!(rt; " {}", list.places[0])?;
+    for place in list.places.iter().take(list.count).skip(1) {
+        print!(rt; ",{place}")?;
     }
     Ok(())
 }
@@ -187,96 +147,51 @@ fn print_synthesis(rt: &impl Print, synthesis: Synthesis) -> io::Result<()> {
     Ok(())
 }
 
-fn print_line(
-    rt: &impl Print,
-    choice: Choice,
+// What the calls answer on a case. The syntheses are those of the chosen face, or of the default face where none is chosen, under
+// reading 0 and under reading 1.
+#[derive(Clone, Copy)]
+struct Answers {
+    chosen: Option<usize>,
     list: Places,
     default: usize,
     old: Synthesis,
     new: Synthesis,
-) -> io::Result<()> {
-    let places = list.places;
-    print_choice(rt, choice)?;
-    print_places(rt, places, list.count)?;
-    print_number(rt, b' ', default)?;
-    print_synthesis(rt, old)?;
+}
+
+impl Answers {
+    fn new(
+        fonts: [FontInfo; 64],
+        count: usize,
+        request: Attributes,
+        synthesize_style: bool,
+    ) -> Result<Self, Refusal> {
+        let Attributes {
+            width,
+            style,
+            weight,
+        } = request;
+        let chosen = match_font(fonts, count, width, style, weight, synthesize_style)?;
+        let list = match_fonts(fonts, count, width, style, weight, synthesize_style)?;
+        let family = FamilyInfo::new(fonts, count)?;
+        let default = family.default_font;
+        let face = family.match_font(chosen.unwrap_or(default))?;
+        Ok(Answers {
+            chosen,
+            list,
+            default,
+            old: face::synthesis(face, 0, width, style, weight)?,
+            new: face::synthesis(face, 1, width, style, weight)?,
+        })
+    }
+}
+
+fn print_answers(rt: &impl Print, answers: Answers) -> io::Result<()> {
+    print!(rt; "{}", Choice(answers.chosen))?;
+    print_places(rt, answers.list)?;
+    print!(rt; " {}", answers.default)?;
+    print_synthesis(rt, answers.old)?;
     rt.write_all(b" |")?;
-    print_synthesis(rt, new)
-}
-
-// Answers.
-
-// The place of the chosen face, or of the default face where none is chosen.
-fn shown_place(choice: Choice, default: usize) -> usize {
-    if let Choice::Place(place) = choice {
-        place
-    } else {
-        default
-    }
-}
-
-// The synthesis of that face under a reading.
-fn shown_synthesis(
-    family: FamilyInfo,
-    choice: Choice,
-    reading: u32,
-    request: Attributes,
-) -> Synthesis {
-    let fetched = family.match_font(shown_place(choice, family.default_font));
-    if fetched.refusal != 0 {
-        return Synthesis::unvaried(fetched.refusal, false, 0);
-    }
-    let font = fetched.font;
-    let width = request.width;
-    let style = request.style;
-    let weight = request.weight;
-    face::synthesis(font, reading, width, style, weight)
-}
-
-// The first of two refusals, if it is one.
-fn first_refusal(a: u8, b: u8) -> u8 {
-    if a != 0 { a } else { b }
-}
-
-// The line of a case, without its end.
-fn print_answers(
-    rt: &impl Print,
-    fonts: [FontInfo; 64],
-    count: usize,
-    request: Attributes,
-    synthesize_style: bool,
-) -> io::Result<()> {
-    let width = request.width;
-    let style = request.style;
-    let weight = request.weight;
-    let choice = matching::matching::match_font(
-        fonts,
-        count,
-        width,
-        style,
-        weight,
-        synthesize_style,
-    );
-    let matches = matching::matching::match_fonts(
-        fonts,
-        count,
-        width,
-        style,
-        weight,
-        synthesize_style,
-    );
-    let made = FamilyInfo::new(fonts, count);
-    let family = made.family;
-    let old = shown_synthesis(family, choice, 0, request);
-    let new = shown_synthesis(family, choice, 1, request);
-    let chosen = first_refusal(matches.refusal, made.refusal);
-    let refusal = first_refusal(chosen, first_refusal(old.refusal, new.refusal));
-    if refusal == 0 {
-        let list = matches.list;
-        print_line(rt, choice, list, family.default_font, old, new)
-    } else {
-        print_refused(rt, refusal)
-    }
+    print_synthesis(rt, answers.new)
 }
 
 // The line of the case that the bytes start with. Answers how many bytes the case takes.
@@ -285,13 +200,16 @@ fn print_case(rt: &impl Print, case: &[u8]) -> io::Result<usize>
 {
     let request = attributes_at(case, 1);
     let count = byte_at(case, 14);
-    let faces = faces_at(case, 15, count);
-    let fonts = faces.fonts;
-    print_answers(rt, fonts, count as usize, request, byte_at(case, 0) != 0)?;
+    let Faces { fonts, end } = faces_at(case, 15, count);
+    match Answers::new(fonts, count as usize, request, byte_at(case, 0) != 0) {
+        Ok(answers) => print_answers(rt, answers)?,
+        Err(refusal) => print!(rt; "refused {refusal}")?,
+    }
     rt.write_all(b"\n")?;
-    Ok(faces.end)
+    Ok(end)
 }
 
+// The position goes on by what each case takes. `offer_cases` has the same loop: in a library it would have nothing to promise.
 fn print_list(rt: &impl Print, list: &[u8]) -> io::Result<()> {
     let mut at: usize = 0;
     while at < list.len() {

@@ -11,7 +11,8 @@ use Rattle.font.specs.declared.font.FontInfo.{FontInfo}
 use Rattle.matching.specs.declared.order.Request.{Request}
 use Rattle.matching.specs.Order.{choice, equal_places}
 use Rattle.matching.specs.Matching.{slnt, has_axis, face_of, no_face, family_of, default_place, axis_count_of}
-use Rattle.matching.specs.Rows.{face_of_row, number_at, place_row, family_of_rows, row_of, face_row}
+use Rattle.matching.specs.declared.rows.Row.{Row}
+use Rattle.matching.specs.Rows.{no_row, face_of_row, number_at, place_row, family_of_rows, row_of, face_row}
 use Rattle.matching.proofs.Alike.{choice_same, equal_same, default_same}
 
 -- the row of a face's attributes, with its slant axis in the lowest bit of the marks, is the face
@@ -37,7 +38,7 @@ face_row_lem font = row_face font (cond (has_axis font slnt) 1 0) (go (has_axis 
     go false = refl
 
 -- so the family of the rows, each place with its own, has the choice, the equal list and the default of the family by value
-module _ (fonts : List FontInfo) (n : ℕ) (rows : List (List ℕ)) (h : (i : ℕ) → i < n → get_or rows i [] ≡ face_row (get_or fonts i no_face)) where
+module _ (fonts : List FontInfo) (n : ℕ) (rows : List Row) (h : (i : ℕ) → i < n → get_or rows i no_row ≡ face_row (get_or fonts i no_face)) where
   faces_same : (i : ℕ) → i < n → (family_of_rows rows [] n).face i ≡ (family_of fonts n).face i
   unfolding family_of place_row number_at
   faces_same i l = ap face_of_row (h i l) ∙ face_row_lem (get_or fonts i no_face) ∙ sym (rw (lt-ltb i n l))

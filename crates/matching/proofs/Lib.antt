@@ -11,10 +11,13 @@ pub mod Demand
 pub mod Alike
 pub mod Fill
 pub mod Gathered
+pub mod Refusals
 pub mod Taken
 pub mod Matched
 pub mod Listed
 pub mod Tried
 pub mod Styles
+pub mod Readings
+pub mod ThreeSettings
 pub mod SettingValues
 pub mod TwoReadings

@@ -1,6 +1,7 @@
 -- Demand 3's first half of `match_font`: its answer for a family of two or more faces that is not refused.
+use Rattle.std.proofs.Common.{Option, Some, None, Ok, IfSome}
 use Prim.Native.Nat.{ℕ, ◌^◌, ◌≤◌, ◌<◌}
-use mathlib.Core.Path.{◌≡◌, refl, sym, ◌∙◌, ap, subst}
+use mathlib.Core.Path.{◌≡◌, refl, sym, subst}
 use mathlib.Core.Bool.{Bool, true, false, cond}
 use mathlib.Core.List.{List}
 use mathlib.Core.Logic.{◌⊎◌, inl, inr}
@@ -16,11 +17,8 @@ use Rattle.font.specs.declared.attributes.FontStyle.{FontStyle}
 use Rattle.font.specs.declared.attributes.FontStyle.TheVariants.{Normal, Italic, Oblique}
 use Rattle.font.specs.declared.attributes.Attributes.{Attributes}
 use Rattle.font.specs.declared.font.FontInfo.{FontInfo}
-use Rattle.matching.specs.declared.matching.Matches.{Matches}
-use Rattle.matching.specs.declared.matching.Choice.{Choice}
-use Rattle.matching.specs.declared.matching.Choice.TheVariants.{Place, Nothing, Refused}
 use Rattle.matching.specs.Order.{Face, stands_before, choice, equal_places, laid_out, Demand}
-use Rattle.matching.specs.Matching.{style_number, face_of, no_face, blank, family_of, request_of, faces_refusal, family_refusal, answered, match_font, Chosen, ChosenOf, equal_list}
+use Rattle.matching.specs.Matching.{Matches, Choice, Place, Nothing, Refused, style_number, face_of, no_face, blank, family_of, request_of, faces_refusal, family_refusal, answered, match_font, Chosen, ChosenOf, equal_list, place_or, choice_in}
 use Rattle.matching.proofs.Below.{truth}
 use Rattle.matching.proofs.Standings.{pick}
 use Rattle.matching.proofs.Before.{Bounded}
@@ -85,25 +83,6 @@ module _ (fonts : List FontInfo) (n : ℕ) where
     unfolding match_font
     refused d = rw (ne_eqb (family_refusal fonts n a) 0 d)
 
-    pub found : family_refusal fonts n a ≡ 0 → (k : ℕ) → k ≡ choice (family_of fonts n) (request_of a on) → k < n → Place k ≡ match_font fonts n a on
-    unfolding answered
-    found e k q l = sym (accepted e ∙ rw (← q, lt-ltb k n l))
-
-    pub nothing : family_refusal fonts n a ≡ 0 → (k : ℕ) → k ≡ choice (family_of fonts n) (request_of a on) → n ≤ k → Nothing ≡ match_font fonts n a on
-    unfolding answered
-    nothing e k q l = sym (accepted e ∙ rw (← q, le-ltb k n l))
-
-    -- the equal list is that of the chosen place, which is not below the count where none is chosen
-    pub listed : family_refusal fonts n a ≡ 0 → (k : ℕ) → k ≡ choice (family_of fonts n) (request_of a on)
-        → ◌≡◌ {A = Matches} (record { refusal = 0; list = laid_out (equal_places (family_of fonts n) k) }) (equal_list fonts n (match_font fonts n a on))
-    unfolding equal_list equal_places family_of
-    listed e k q = go (truth (ltb k n))
-      where
-        go : (ltb k n ≡ true) ⊎ (ltb k n ≡ false)
-            → ◌≡◌ {A = Matches} (record { refusal = 0; list = laid_out (equal_places (family_of fonts n) k) }) (equal_list fonts n (match_font fonts n a on))
-        go (inl t) = ap (equal_list fonts n) (found e k q (ltb-true k n t))
-        go (inr f) = rw f (ap (equal_list fonts n) (nothing e k q (ltb-false k n f)))
-
     pub chosen : family_refusal fonts n a ≡ 0 → 2 ≤ n → Chosen (family_of fonts n) (request_of a on) (match_font fonts n a on)
     unfolding answered family_of
     chosen e two = subst (Chosen (family_of fonts n) (request_of a on)) (sym (accepted e)) (go (truth (ltb r n)))
@@ -133,6 +112,19 @@ module _ (fonts : List FontInfo) (n : ℕ) where
     pub answer : (r : Choice) → r ≡ match_font fonts n a on
         → (r ≡ match_font fonts n a on) × ChosenOf fonts n a on r
     answer r e = (e, λ z t. subst (Chosen (family_of fonts n) (request_of a on)) (sym e) (chosen z t))
+
+-- the answer is a place of the family, or nothing
+pub answers : (n k : ℕ) (r : Option ℕ) → place_or n r ≡ k → IfSome r (λ place. place < n) → choice_in (Ok r) ≡ answered n k
+unfolding place_or choice_in answered
+answers n k (Some place) e l = sym (rw (← e, lt-ltb place n l))
+answers n k None e l = sym (rw (← e, le-ltb n n (omega arith)))
+
+-- and its equal list is that of the place, or empty
+pub listed : (fonts : List FontInfo) (n : ℕ) (r : Option ℕ)
+    → ◌≡◌ {A = Matches} (record { refusal = 0; list = laid_out (equal_places (family_of fonts n) (place_or n r)) }) (equal_list fonts n (choice_in (Ok r)))
+unfolding equal_list equal_places family_of place_or choice_in
+listed fonts n (Some place) = refl
+listed fonts n None = rw (le-ltb n n (omega arith))
 
 -- "No face for an empty family; place 0 for one face."
 pub none_of_none : (fonts : List FontInfo) (a : Attributes) (on : Bool) → family_refusal fonts 0 a ≡ 0 → match_font fonts 0 a on ≡ Nothing

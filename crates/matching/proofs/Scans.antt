@@ -12,7 +12,7 @@ use Rattle.font.specs.First.{least_below}
 use Rattle.matching.specs.declared.order.Request.{Request}
 use Rattle.matching.specs.declared.rank.Standing.{Standing}
 use Rattle.matching.specs.Rank.{grouped}
-use Rattle.matching.specs.Packed.{packed, place_of, asks_slant, Scanned}
+use Rattle.matching.specs.Packed.{packed, place_of, width_rank, style_rank, weight_rank, asks_slant, slants, largest, Scanned}
 use Rattle.matching.specs.Below.{some}
 use Rattle.matching.specs.Order.{Face, Family, width_standing, other_standing, oblique_standing, style_standing, weight_standing, same_percent, bears, slant_at, in_width, in_style, in_weight, has_group, choice}
 use Rattle.matching.proofs.Below.{truth, clash, both, join, least_le, least_top, least_at, least_more}
@@ -210,3 +210,29 @@ module _ (family : Family) (request : Request) (bounds : Bounded family) (two : 
               (same_percent_lem family k (place_of v)
               (eqb-true (family.face (place_of v)).percent (family.face lead).percent t.0 ∙ sym (eqb-true (family.face k).percent (family.face lead).percent bearer.1)))
               (eqb-true (family.face (place_of v)).style (family.face k).style t.1)
+
+-- what the three scans of a family lead to, by what each says
+module _ (family : Family) (request : Request) (few : family.count ≤ 64) (two : 2 ≤ family.count) {w : ℕ} (width : Scanned family (width_rank request) largest w) {lead : ℕ} (lead_is : lead ≡ place_of w) where
+  bounded : Bounded family
+  bounded = record { most = few; percents = λ i l. omega (arith, width.short i l); styles = λ i l. omega (arith, width.short i l) }
+
+  pub lead_in : lead < family.count
+  lead_in = (first_found family request few bounded.percents two w width.least lead lead_is).0
+
+  module _ {percent : ℕ} (percent-is : percent ≡ (family.face lead).percent) {slant : Bool} (slant-is : slant ≡ (asks_slant request && some (λ i. slants percent (family.face i)) family.count)) {s : ℕ} (style : Scanned family (style_rank request percent slant) largest s) where
+    pub none_in : s ≡ 2 ^ 64 - 1 → family.count ≡ choice family request
+    none_in q = found_none family request bounded two w width.least lead lead_is slant (rw percent-is at slant-is) s (rw percent-is at style.least) q
+
+    module _ (some-style : s ≡ 2 ^ 64 - 1 → ⊥) {k : ℕ} (k-is : k ≡ place_of s) where
+      pub bearer_in : k < family.count
+      bearer_in = (k_found family request bounded two w width.least lead lead_is slant (rw percent-is at slant-is) s (rw percent-is at style.least) some-style k k-is).0
+
+      module _ {n : ℕ} (n-is : n ≡ (family.face k).style) {v : ℕ} (weight : Scanned family (weight_rank request percent n) largest v) where
+        weigh : (i : ℕ) → i < family.count → (family.face i).weight < 2 ^ 32
+        weigh i l = omega (arith, width.short i l)
+
+        pub chosen_in : place_of v < family.count
+        chosen_in = (r_found family request bounded two w width.least lead lead_is slant (rw percent-is at slant-is) s (rw percent-is at style.least) weigh some-style k k-is v (rw (percent-is, n-is) at weight.least)).0
+
+        pub chosen_is : place_of v ≡ choice family request
+        chosen_is = found_one family request bounded two w width.least lead lead_is slant (rw percent-is at slant-is) s (rw percent-is at style.least) weigh some-style k k-is v (rw (percent-is, n-is) at weight.least)

@@ -1,4 +1,5 @@
 -- No setting of a synthesis is a NaN, for a request that is accepted.
+use Rattle.std.specs.Prelude.{Option, None, Some}
 use Prim.Native.Nat.{ℕ, zero, suc, ◌+◌, ◌*◌, ◌^◌, ◌≤◌, ◌<◌}
 use mathlib.Core.Path.{◌≡◌, refl, sym, ◌∙◌}
 use mathlib.Core.Bool.{Bool, true, false, not, ◌&&◌, cond}
@@ -20,11 +21,10 @@ use Rattle.font.specs.declared.attributes.FontStyle.{FontStyle}
 use Rattle.font.specs.declared.attributes.FontStyle.TheVariants.{Normal, Italic, Oblique}
 use Rattle.font.specs.declared.attributes.Attributes.{Attributes}
 use Rattle.matching.specs.declared.synthesis.Setting.{Setting}
-use Rattle.matching.specs.declared.synthesis.Setting.TheVariants.{Unset, Set}
 use Rattle.matching.specs.declared.synthesis.Lean.{Lean}
 use Rattle.matching.specs.declared.synthesis.Lean.TheVariants.{Upright, Varied, Skewed}
 use Rattle.matching.specs.declared.synthesis.Varies.{Varies}
-use Rattle.matching.specs.declared.synthesis.Synthesis.{Synthesis}
+use Rattle.matching.specs.Synthesis.{differs_from, SynthesisAnswer}
 use Rattle.matching.specs.Synthesis.{width_setting, weight_setting, degrees_of, italic_lean, leans_right, oblique_lean, lean_of, setting_of, unvaried, put, added, synthesized}
 use Rattle.font.proofs.Opposites.{slant_number}
 use Rattle.matching.proofs.Below.{clash, both}
@@ -67,9 +67,9 @@ percent_number (fin false m d) e = round_number binary32 false (m * up d * 100) 
 
 -- ---- settings
 
-abbrev Plain : Setting → Type 0
-Plain Unset = Unit {0}
-Plain (Set tag value) = Number value
+abbrev Plain : Option Setting → Type 0
+Plain None = Unit {0}
+Plain (Some x) = Number x.value
 
 whole_number : (n : ℕ) → Number (single n)
 unfolding single of_int
@@ -83,18 +83,18 @@ width_plain v own wanted e =
 weight_plain : (v : Varies) (wanted : Float) → finite wanted ≡ true → Plain (weight_setting v wanted)
 unfolding weight_setting
 weight_plain v wanted e =
-    pick Plain (v.weight && not (eqb (order_key v.weight_default) (order_key wanted))) (finite_number wanted e) tt
+    pick Plain (differs_from v.weight wanted) (finite_number wanted e) tt
 
 -- of a lean
 abbrev Leaning : Lean → Type 0
 Leaning Upright = Unit {0}
-Leaning (Varied tag value) = Number value
+Leaning (Varied x) = Number x.value
 Leaning (Skewed degrees) = Unit {0}
 
 setting_plain : (x : Lean) → Leaning x → Plain (setting_of x)
 unfolding setting_of
 setting_plain Upright e = tt
-setting_plain (Varied tag value) e = e
+setting_plain (Varied x) e = e
 setting_plain (Skewed degrees) e = tt
 
 -- a slant is a number under every reading
@@ -125,31 +125,31 @@ leaning reading v (Oblique b) w e = tt
 
 -- ---- the three slots
 
-record Slots (s : Synthesis) : Type 0 where
+record Slots (s : SynthesisAnswer) : Type 0 where
   three : length s.values ≡ 3
   within : s.len ≤ 3
   plain : (i : ℕ) → i < 3 → Number (get_or s.values i nan)
 
-added_slots : (s : Synthesis) (x : Setting) → Slots s → Plain x → Slots (added s x)
+added_slots : (s : SynthesisAnswer) (x : Option Setting) → Slots s → Plain x → Slots (added s x)
 unfolding added put
-added_slots s Unset h e = h
-added_slots s (Set tag value) h e = go (ltb s.len 3) refl
+added_slots s None h e = h
+added_slots s (Some x) h e = go (ltb s.len 3) refl
   where
     go : (b : Bool) → ltb s.len 3 ≡ b
         → Slots
         (cond b
-        (record { refusal = s.refusal; tags = set s.tags s.len tag; values = set s.values s.len value; len = s.len + 1; embolden = s.embolden; skew = s.skew })
+        (record { refusal = s.refusal; tags = set s.tags s.len x.tag; values = set s.values s.len x.value; len = s.len + 1; embolden = s.embolden; skew = s.skew })
         (record { refusal = 29; tags = s.tags; values = s.values; len = s.len; embolden = s.embolden; skew = s.skew }))
     go true t =
         record {
-          three = length-set s.values s.len value ∙ h.three;
+          three = length-set s.values s.len x.value ∙ h.three;
           within = omega (arith, ltb-true s.len 3 t);
           plain = λ i l. slot i l (ℕ_discrete i s.len);
         }
       where
-        slot : (i : ℕ) → i < 3 → Dec (i ≡ s.len) → Number (get_or (set s.values s.len value) i nan)
-        slot i l (yes q) = rw (q, get_or-set_same s.values s.len value nan (omega (arith, h.three, ltb-true s.len 3 t))) e
-        slot i l (no q) = rw (get_or-set_other s.values s.len i value nan q) (h.plain i l)
+        slot : (i : ℕ) → i < 3 → Dec (i ≡ s.len) → Number (get_or (set s.values s.len x.value) i nan)
+        slot i l (yes q) = rw (q, get_or-set_same s.values s.len x.value nan (omega (arith, h.three, ltb-true s.len 3 t))) e
+        slot i l (no q) = rw (get_or-set_other s.values s.len i x.value nan q) (h.plain i l)
     go false t = record { three = h.three; within = h.within; plain = h.plain }
 
 unvaried_slots : (bold : Bool) (skew : ℤ) → Slots (unvaried 0 bold skew)

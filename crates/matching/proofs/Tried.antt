@@ -13,7 +13,7 @@ use Rattle.matching.specs.Rank.{lower, before, grouped}
 use Rattle.matching.specs.Below.{some, every, last}
 use Rattle.matching.specs.Order.{zero_angle, fourteen, minus_fourteen, four_hundred, five_hundred, angle, oblique, width_standing, normal_standing, italic_standing, other_standing, side_standing, right_standing, left_standing, oblique_standing, style_standing, weight_standing, same_percent, bears, slant_at, in_width, in_style, in_weight, bearer_of, bearer, has_group, width_before, style_before, weight_before, stands_before, stands_first, choice}
 use Rattle.matching.specs.Matching.{style_number, axis_at, axis_count_of, axis_place, has_axis, slnt, face_of, blank, family_of, request_of, refused_as, faces_refusal, family_refusal, answered, match_font}
-use Rattle.matching.specs.Synthesis.{wdth, wght, ital, width_setting, weight_setting, emboldened, degrees_of, leans_right, italic_lean, oblique_lean, lean_of, setting_of, skew_of, unvaried, put, added, synthesized, varies_of, synthesis_refusal, synthesis_of}
+use Rattle.matching.specs.Synthesis.{wdth, wght, ital, width_setting, differs_from, weight_setting, emboldened, degrees_of, leans_right, italic_lean, oblique_lean, lean_of, setting_of, skew_of, unvaried, put, added, synthesized, varies_of, synthesis_refusal, synthesis_of}
 use Rattle.matching.specs.Faces.{fraction, minus_fraction, face_with, weighing, wide, styled, slanting, stated, of_two, for_weight, for_width, for_style, FacesToTry}
 
 -- item 12's numbers, each computed by itself
@@ -34,7 +34,7 @@ unfolding fraction round
 whole_2 = refl
 
 pub tried : FacesToTry
-unfolding is_reading accepted_ratio accepted_angle accepted_style accepted_attributes axis_of accepted_axis accepted_face refusal_of face_refusal single of_int round add sum mul lt le neg to_bits is_nan to_unsigned to_signed order_key key_of_bits whole_percent first lower before grouped some every last zero_angle fourteen minus_fourteen four_hundred five_hundred angle oblique width_standing normal_standing italic_standing other_standing side_standing right_standing left_standing oblique_standing style_standing weight_standing same_percent bears slant_at in_width in_style in_weight bearer_of bearer has_group width_before style_before weight_before stands_before stands_first choice style_number axis_at axis_count_of axis_place has_axis slnt face_of blank family_of request_of refused_as faces_refusal family_refusal answered match_font wdth wght ital width_setting weight_setting emboldened degrees_of leans_right italic_lean oblique_lean lean_of setting_of skew_of unvaried put added synthesized varies_of synthesis_refusal synthesis_of fraction minus_fraction face_with weighing wide styled slanting stated of_two for_weight for_width for_style
+unfolding is_reading accepted_ratio accepted_angle accepted_style accepted_attributes axis_of accepted_axis accepted_face refusal_of face_refusal single of_int round add sum mul lt le neg to_bits is_nan to_unsigned to_signed order_key key_of_bits whole_percent first lower before grouped some every last zero_angle fourteen minus_fourteen four_hundred five_hundred angle oblique width_standing normal_standing italic_standing other_standing side_standing right_standing left_standing oblique_standing style_standing weight_standing same_percent bears slant_at in_width in_style in_weight bearer_of bearer has_group width_before style_before weight_before stands_before stands_first choice style_number axis_at axis_count_of axis_place has_axis slnt face_of blank family_of request_of refused_as faces_refusal family_refusal answered match_font wdth wght ital width_setting weight_setting differs_from emboldened degrees_of leans_right italic_lean oblique_lean lean_of setting_of skew_of unvaried put added synthesized varies_of synthesis_refusal synthesis_of fraction minus_fraction face_with weighing wide styled slanting stated of_two for_weight for_width for_style
 tried =
     record {
       item1 = λ on. refl;

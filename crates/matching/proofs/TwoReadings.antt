@@ -1,4 +1,5 @@
 -- The two readings of a synthesis (`specs/TwoReadings.antt`).
+use Rattle.std.specs.Prelude.{None, Some}
 use Prim.Native.Nat.{ℕ}
 use mathlib.Core.Path.{◌≡◌, refl}
 use mathlib.Core.Bool.{Bool, true, false, not, ◌&&◌, cond}
@@ -14,14 +15,13 @@ use Rattle.font.specs.declared.attributes.FontStyle.{FontStyle}
 use Rattle.font.specs.declared.attributes.FontStyle.TheVariants.{Normal, Italic, Oblique}
 use Rattle.font.specs.declared.attributes.Attributes.{Attributes}
 use Rattle.font.specs.declared.font.FontInfo.{FontInfo}
-use Rattle.matching.specs.declared.synthesis.Setting.TheVariants.{Unset, Set}
 use Rattle.matching.specs.declared.synthesis.Lean.{Lean}
 use Rattle.matching.specs.declared.synthesis.Lean.TheVariants.{Upright, Varied, Skewed}
 use Rattle.matching.specs.declared.synthesis.Varies.{Varies}
-use Rattle.matching.specs.declared.synthesis.Synthesis.{Synthesis}
+use Rattle.matching.specs.Synthesis.{differs_from, SynthesisAnswer}
 use Rattle.matching.specs.Order.{zero_angle}
 use Rattle.matching.specs.Matching.{axis_at, axis_count_of, axis_place, has_axis, slnt}
-use Rattle.matching.specs.Synthesis.{wdth, wght, ital, width_setting, weight_setting, emboldened, degrees_of, leans_right, italic_lean, oblique_lean, lean_of, setting_of, skew_of, unvaried, put, added, synthesized, varies_of, synthesis_refusal, synthesis_of, opposite_values, opposite_slant}
+use Rattle.matching.specs.Synthesis.{wdth, wght, ital, setting, width_setting, weight_setting, emboldened, degrees_of, leans_right, italic_lean, oblique_lean, lean_of, setting_of, skew_of, unvaried, put, added, synthesized, varies_of, synthesis_refusal, synthesis_of, opposite_values, opposite_slant}
 use Rattle.matching.specs.Faces.{face_with, styled, slanting, stated, for_style}
 use Rattle.matching.specs.TwoReadings.{Old, TwoReadings, set_to, italicized, made, SlantsToTry}
 
@@ -30,15 +30,15 @@ use Rattle.matching.specs.TwoReadings.{Old, TwoReadings, set_to, italicized, mad
 -- with the value of `slnt` negated
 opposite_lean : Lean → Lean
 opposite_lean Upright = Upright
-opposite_lean (Varied tag value) = Varied tag (cond (eqb tag slnt) (opposite value) value)
+opposite_lean (Varied x) = Varied (setting x.tag (cond (eqb x.tag slnt) (opposite x.value) x.value))
 opposite_lean (Skewed degrees) = Skewed degrees
 
 italic_same : (v : Varies) → italic_lean 1 v ≡ opposite_lean (italic_lean 0 v)
 unfolding italic_lean opposite_lean slant_under ital slnt
 italic_same v = go v.italic v.slant
   where
-    go : (a b : Bool) → cond a (Varied ital (single 1)) (cond b (Varied slnt (opposite (single 14))) (Skewed (pos 14)))
-        ≡ opposite_lean (cond a (Varied ital (single 1)) (cond b (Varied slnt (single 14)) (Skewed (pos 14))))
+    go : (a b : Bool) → cond a (Varied (setting ital (single 1))) (cond b (Varied (setting slnt (opposite (single 14)))) (Skewed (pos 14)))
+        ≡ opposite_lean (cond a (Varied (setting ital (single 1))) (cond b (Varied (setting slnt (single 14))) (Skewed (pos 14))))
     go true b = refl
     go false true = refl
     go false false = refl
@@ -47,8 +47,8 @@ oblique_same : (v : Varies) (d : Float) → oblique_lean 1 v d ≡ opposite_lean
 unfolding oblique_lean opposite_lean slant_under ital slnt
 oblique_same v d = go v.slant (leans_right v d)
   where
-    go : (a b : Bool) → cond a (Varied slnt (opposite d)) (cond b (Varied ital (single 1)) (Skewed (to_signed 7 d)))
-        ≡ opposite_lean (cond a (Varied slnt d) (cond b (Varied ital (single 1)) (Skewed (to_signed 7 d))))
+    go : (a b : Bool) → cond a (Varied (setting slnt (opposite d))) (cond b (Varied (setting ital (single 1))) (Skewed (to_signed 7 d)))
+        ≡ opposite_lean (cond a (Varied (setting slnt d)) (cond b (Varied (setting ital (single 1))) (Skewed (to_signed 7 d))))
     go true b = refl
     go false true = refl
     go false false = refl
@@ -63,23 +63,23 @@ lean_same v (Oblique b) w = refl
 
 -- ---- the synthesis of a lean, with `wdth` and `wght` before it or not
 
-three : Bool → Bool → Float → Bool → Float → Lean → Synthesis
+three : Bool → Bool → Float → Bool → Float → Lean → SynthesisAnswer
 three bold a x b y l =
-    added (added (added (unvaried 0 bold (skew_of l)) (cond a (Set wdth x) Unset)) (cond b (Set wght y) Unset)) (setting_of l)
+    added (added (added (unvaried 0 bold (skew_of l)) (cond a (Some (setting wdth x)) None)) (cond b (Some (setting wght y)) None)) (setting_of l)
 
 three_same : (bold a : Bool) (x : Float) (b : Bool) (y : Float) (l : Lean) → three bold a x b y (opposite_lean l) ≡ opposite_slant (three bold a x b y l)
 unfolding three opposite_lean skew_of setting_of added put unvaried opposite_slant opposite_values wdth wght slnt
 three_same bold true x true y Upright = refl
-three_same bold true x true y (Varied t z) = refl
+three_same bold true x true y (Varied z) = refl
 three_same bold true x true y (Skewed d) = refl
 three_same bold true x false y Upright = refl
-three_same bold true x false y (Varied t z) = refl
+three_same bold true x false y (Varied z) = refl
 three_same bold true x false y (Skewed d) = refl
 three_same bold false x true y Upright = refl
-three_same bold false x true y (Varied t z) = refl
+three_same bold false x true y (Varied z) = refl
 three_same bold false x true y (Skewed d) = refl
 three_same bold false x false y Upright = refl
-three_same bold false x false y (Varied t z) = refl
+three_same bold false x false y (Varied z) = refl
 three_same bold false x false y (Skewed d) = refl
 
 opposite_same : (own : Attributes) (v : Varies) (a : Attributes) → synthesized 1 own v a ≡ opposite_slant (synthesized 0 own v a)
@@ -89,7 +89,7 @@ opposite_same own v a =
     (three_same (emboldened v own.weight.value a.weight.value)
     (v.width && not (eqb (order_key own.width.ratio) (order_key a.width.ratio)))
     (mul binary32 a.width.ratio (single 100))
-    (v.weight && not (eqb (order_key v.weight_default) (order_key a.weight.value)))
+    (differs_from v.weight a.weight.value)
     a.weight.value
     (lean_of 0 v own.style a.style))
 
@@ -140,7 +140,7 @@ two_readings =
 -- ---- the small syntheses, by computing the definitions
 
 pub tried : SlantsToTry
-unfolding is_reading slant_under opposite accepted_ratio accepted_angle accepted_style accepted_attributes axis_of accepted_axis accepted_face refusal_of face_refusal single of_int round add sum mul lt eq le neg to_bits is_nan to_signed order_key key_of_bits first every zero_angle axis_at axis_count_of axis_place has_axis slnt wdth wght ital width_setting weight_setting emboldened degrees_of leans_right italic_lean oblique_lean lean_of setting_of skew_of unvaried put added synthesized varies_of synthesis_refusal synthesis_of face_with styled slanting stated for_style set_to italicized made
+unfolding is_reading slant_under opposite accepted_ratio accepted_angle accepted_style accepted_attributes axis_of accepted_axis accepted_face refusal_of face_refusal single of_int round add sum mul lt eq le neg to_bits is_nan to_signed order_key key_of_bits first every zero_angle axis_at axis_count_of axis_place has_axis slnt wdth wght ital width_setting weight_setting differs_from emboldened degrees_of leans_right italic_lean oblique_lean lean_of setting_of skew_of unvaried put added synthesized varies_of synthesis_refusal synthesis_of face_with styled slanting stated for_style set_to italicized made
 tried =
     record {
       italic = (refl, refl);

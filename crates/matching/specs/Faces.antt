@@ -10,8 +10,8 @@ use Rattle.font.specs.declared.attributes.FontStyle.TheVariants.{Normal, Italic,
 use Rattle.font.specs.declared.attributes.Attributes.{Attributes}
 use Rattle.font.specs.declared.font.AxisInfo.{AxisInfo}
 use Rattle.font.specs.declared.font.FontInfo.{FontInfo}
-use Rattle.matching.specs.declared.matching.Choice.{Choice}
-use Rattle.matching.specs.declared.matching.Choice.TheVariants.{Place, Nothing}
+use Rattle.matching.specs.Matching.{Choice}
+use Rattle.matching.specs.Matching.{Place, Nothing}
 use Rattle.matching.specs.Matching.{slnt, no_axis, match_font}
 use Rattle.matching.specs.Synthesis.{unvaried, synthesis_of}
 

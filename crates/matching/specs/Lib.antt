@@ -3,6 +3,7 @@ pub mod Rank
 pub mod Below
 pub mod Order
 pub mod Matching
+pub mod Axes
 pub mod Family
 pub mod Synthesis
 -- Section 7's items, one statement about these; and the two readings.
@@ -11,3 +12,4 @@ pub mod TwoReadings
 -- How the code carries a face and a rank: nothing here is a promise to a user.
 pub mod Packed
 pub mod Rows
+pub mod FamilyRows

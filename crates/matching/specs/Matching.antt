@@ -1,5 +1,5 @@
 -- Section 4 for faces by value: the numbers that the order looks at, the choice, the equal list, the default, and the refusals of calls on a family by value.
-use Rattle.std.specs.Prelude.{ℕ, ◌≤◌, ◌<◌, min, ◌≡◌, Bool, true, false, ◌||◌, cond, List, [], ltb, eqb, get_or}
+use Rattle.std.specs.Prelude.{ℕ, ◌≤◌, ◌<◌, min, ◌≡◌, Bool, true, false, ◌||◌, cond, List, [], ltb, eqb, get_or, Option, None, Some, Result, Ok, Err}
 use Rattle.std.specs.Float.{nan}
 use Rattle.font.specs.First.{first}
 use Rattle.font.specs.Single.{order_key, whole_percent}
@@ -14,10 +14,10 @@ use Rattle.font.specs.declared.attributes.Attributes.{Attributes}
 use Rattle.font.specs.declared.font.AxisInfo.{AxisInfo}
 use Rattle.font.specs.declared.font.FontInfo.{FontInfo}
 use Rattle.matching.specs.declared.order.Request.{Request}
-use Rattle.matching.specs.declared.matching.Matches.{Matches}
+use Rattle.matching.specs.declared.stages.Places.{Places}
 use Rattle.matching.specs.Below.{some}
-use Rattle.matching.specs.declared.matching.Choice.{Choice}
-use Rattle.matching.specs.declared.matching.Choice.TheVariants.{Place, Nothing, Refused}
+use Rattle.font.specs.declared.refusal.Refusal.{Refusal}
+use Rattle.font.specs.Refusals.{number}
 use Rattle.matching.specs.Order.{Face, Family, stands_before, choice, empty_case, equal_places, laid_out}
 
 -- A style as one number: 0 normal, 1 italic, 2 oblique unstated, and else the order number of the stated angle, raised by 2^31.
@@ -101,7 +101,22 @@ faces_refusal fonts n = cond (ltb 64 n || refused_as fonts n 19) 19 (cond (refus
 unfoldable pub family_refusal : List FontInfo → ℕ → Attributes → ℕ
 family_refusal fonts n a = cond (eqb (faces_refusal fonts n) 0) (cond (accepted_attributes a) 0 26) (faces_refusal fonts n)
 
--- the answer of `match_font`: the chosen place, nothing, or the refusal
+-- a place, or the count where there is none
+unfoldable pub place_or : ℕ → Option ℕ → ℕ
+place_or n (Some place) = place
+place_or n None = n
+
+-- the answer of `match_font`: the chosen place, nothing, or the number of the refusal
+pub data Choice : Type 0 where
+  Place : ℕ → Choice
+  Nothing : Choice
+  Refused : ℕ → Choice
+
+unfoldable pub choice_in : Result (Option ℕ) Refusal → Choice
+choice_in (Ok (Some place)) = Place place
+choice_in (Ok None) = Nothing
+choice_in (Err why) = Refused (number why)
+
 unfoldable pub answered : ℕ → ℕ → Choice
 answered n r = cond (ltb r n) (Place r) Nothing
 
@@ -121,6 +136,15 @@ pub record Chosen (family : Family) (request : Request) (answer : Choice) : Type
 -- and of the answer of `match_font`: for two or more faces, where the call is not refused
 abbrev pub ChosenOf : List FontInfo → ℕ → Attributes → Bool → Choice → Type 0
 ChosenOf fonts n a on answer = family_refusal fonts n a ≡ 0 → 2 ≤ n → Chosen (family_of fonts n) (request_of a on) answer
+
+-- an equal list, and the number of the refusal, 0 for none; beside a refusal stands no list
+pub record Matches : Type 0 where
+  pub refusal : ℕ
+  pub list : Places
+
+unfoldable pub matches_in : Result Places Refusal → Matches
+matches_in (Ok list) = record { refusal = 0; list = list }
+matches_in (Err why) = record { refusal = number why; list = laid_out [] }
 
 -- the equal list of an answer
 unfoldable pub equal_list : List FontInfo → ℕ → Choice → Matches

@@ -1,5 +1,5 @@
 -- How the code carries a standing and a place as one number. No promise to a caller cites this: the lower number stands before (proofs/Ranks.antt).
-use Rattle.std.specs.Prelude.{ℕ, ◌+◌, ◌-◌, ◌*◌, ◌/◌, ◌%◌, ◌^◌, ◌<◌, ◌≡◌, Bool, ◌&&◌, cond, eqb, ltb}
+use Rattle.std.specs.Prelude.{ℕ, ◌+◌, ◌-◌, ◌*◌, ◌/◌, ◌%◌, ◌^◌, ◌<◌, ◌≡◌, max, Bool, ◌&&◌, cond, eqb, ltb}
 use Rattle.font.specs.First.{least_below}
 use Rattle.matching.specs.declared.order.Request.{Request}
 use Rattle.matching.specs.declared.rank.Standing.{Standing}
@@ -32,6 +32,10 @@ asks_slant request = request.synthesis && ltb 1 request.style
 
 abbrev pub slants : ℕ → Face → Bool
 slants percent face = eqb face.percent percent && face.slant
+
+-- the largest of the numbers of a face that are ranked
+abbrev pub largest : Face → ℕ
+largest face = max face.percent (max face.style face.weight)
 
 -- What a scan of a family finds: the least of the ranks, which is 2 ^ 64 - 1 where no face has one; and that the numbers ranked are of 32 bits.
 abbrev pub least_rank : Family → (Face → ℕ → ℕ) → ℕ

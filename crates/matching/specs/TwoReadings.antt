@@ -14,17 +14,17 @@ use Rattle.font.specs.declared.attributes.Attributes.{Attributes}
 use Rattle.font.specs.declared.font.FontInfo.{FontInfo}
 use Rattle.matching.specs.declared.synthesis.Lean.TheVariants.{Upright, Varied, Skewed}
 use Rattle.matching.specs.declared.synthesis.Varies.{Varies}
-use Rattle.matching.specs.declared.synthesis.Synthesis.{Synthesis}
+use Rattle.matching.specs.Synthesis.{SynthesisAnswer}
 use Rattle.matching.specs.Matching.{slnt}
-use Rattle.matching.specs.Synthesis.{ital, width_setting, weight_setting, emboldened, degrees_of, leans_right, lean_of, setting_of, skew_of, unvaried, added, synthesized, varies_of, synthesis_refusal, synthesis_of, opposite_slant}
+use Rattle.matching.specs.Synthesis.{ital, setting, width_setting, weight_setting, emboldened, degrees_of, leans_right, lean_of, setting_of, skew_of, unvaried, added, synthesized, varies_of, synthesis_refusal, synthesis_of, opposite_slant}
 use Rattle.matching.specs.Faces.{face_with, styled, slanting, stated, for_style}
 
 -- Reading 0 is all that stood: each definition computes to what it was without a reading, over those below it under reading 0.
 pub record Old : Type 0 where
-  pub italic : (v : Varies) → lean_of 0 v Normal Italic ≡ cond v.italic (Varied ital (single 1)) (cond v.slant (Varied slnt (single 14)) (Skewed (pos 14)))
+  pub italic : (v : Varies) → lean_of 0 v Normal Italic ≡ cond v.italic (Varied (setting ital (single 1))) (cond v.slant (Varied (setting slnt (single 14))) (Skewed (pos 14)))
   pub oblique : (v : Varies) (a : Angle)
       → lean_of 0 v Normal (Oblique a)
-      ≡ cond v.slant (Varied slnt (degrees_of a)) (cond (leans_right v (degrees_of a)) (Varied ital (single 1)) (Skewed (to_signed 7 (degrees_of a))))
+      ≡ cond v.slant (Varied (setting slnt (degrees_of a))) (cond (leans_right v (degrees_of a)) (Varied (setting ital (single 1))) (Skewed (to_signed 7 (degrees_of a))))
   pub upright : (v : Varies) → lean_of 0 v Normal Normal ≡ Upright
   pub italic_face : (v : Varies) (wanted : FontStyle) → lean_of 0 v Italic wanted ≡ Upright
   pub oblique_face : (v : Varies) (a : Angle) (wanted : FontStyle) → lean_of 0 v (Oblique a) wanted ≡ Upright
@@ -54,7 +54,7 @@ pub record TwoReadings : Type 0 where
 -- ---- small syntheses, each whole
 
 -- one setting, and no other
-unfoldable pub set_to : ℕ → Float → Synthesis
+unfoldable pub set_to : ℕ → Float → SynthesisAnswer
 set_to tag value =
     record {
       refusal = 0;
@@ -70,7 +70,7 @@ unfoldable pub italicized : FontInfo
 italicized = face_with (attributes_of (single 1) Normal (single 400)) (record { tag = ital; min = single 0; default = single 0; max = single 1 } ∷ [])
 
 -- under each reading the synthesis of a face for a style
-unfoldable pub made : ℕ → FontInfo → FontStyle → Synthesis
+unfoldable pub made : ℕ → FontInfo → FontStyle → SynthesisAnswer
 made reading font style = synthesis_of reading font (for_style style)
 
 pub record SlantsToTry : Type 0 where

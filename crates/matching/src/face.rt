@@ -1,70 +1,62 @@
 // Calls on a face by value.
-ghost use Rattle.std.specs.Prelude.{◌≡◌};
+ghost use Rattle.std.specs.Prelude.{◌≡◌, IfOk};
+ghost use Rattle.font.specs.Refusals.{refusal_in};
+ghost use Rattle.font.specs.Slant.{reading_number};
 ghost use Rattle.matching.specs.Matching.{attributes_from};
-ghost use Rattle.matching.specs.Synthesis.{varies_of, synthesis_refusal, synthesis_of};
+ghost use Rattle.matching.specs.Synthesis.{varies_of, synthesis_refusal, synthesis_of, synthesis_in};
 
 use crate::synthesis::{Synthesis, Varies};
 use crate::{axes, synthesis};
 use font::attributes::{Attributes, FontStyle, FontWeight, FontWidth};
 use font::font::FontInfo;
-use font::{overrides, slant};
+use font::overrides;
+use font::refusal::Refusal;
+use font::slant::Reading;
 
 // Which axes a face has.
+#[tactic(auto, using(crate::proofs::Gathered::axes_few), unfolding(crate::specs::Synthesis::varies_of, crate::specs::Synthesis::wdth, crate::specs::Synthesis::wght, crate::specs::Synthesis::ital, crate::specs::Matching::slnt, crate::specs::Matching::axis_at, crate::specs::Matching::has_axis))]
 pub fn varies(font: FontInfo) -> Varies
     ensures { result ≡ varies_of font }
 {
-    let place = axes::axis_place(font, axes::WGHT);
-    let weight = place < axes::axis_count(font);
-    let mut weight_default: f32 = 0.0;
-    if weight {
-        let list = font.axes;
-        weight_default = list[place].default;
-    }
     Varies {
-        width: axes::has_axis(font, axes::WDTH),
-        weight,
-        weight_default,
-        slant: axes::has_axis(font, axes::SLNT),
-        italic: axes::has_axis(font, axes::ITAL),
+        width: axes::has_axis(&font, axes::WDTH),
+        weight: axes::axis_place(&font, axes::WGHT).map(|place| font.axes[place].default),
+        slant: axes::has_axis(&font, axes::SLNT),
+        italic: axes::has_axis(&font, axes::ITAL),
     }
 }
 
-// The refusal of a call on a face with a request under a reading: 25, 19, 26 or 0.
-fn synthesis_refusal(font: FontInfo, reading: u32, request: Attributes) -> u8
-    ensures { result ≡ synthesis_refusal reading font request }
+// The reading of a call on a face with a request, or why it is refused: for no reading, then for the face, then for the request.
+#[tactic(auto, using(crate::proofs::Readings::readings), unfolding(crate::specs::Synthesis::synthesis_refusal, font::specs::Refusals::refusal_in, font::specs::Refusals::number))]
+fn synthesis_refusal(font: FontInfo, reading: u32, request: Attributes) -> Result<Reading, Refusal>
+    ensures value { refusal_in result ≡ synthesis_refusal reading font request }
+    ensures read { IfOk result (λ r. reading_number r ≡ reading) }
 {
-    if !slant::is_reading(reading) {
-        return 25;
-    }
-    let refusal = overrides::face_refusal(font);
-    if refusal != 0 {
-        return refusal;
-    }
+    let reading = Reading::try_from(reading)?;
+    overrides::face_refusal(font)?;
     if request.accepted() {
-        return 0;
+        Ok(reading)
+    } else {
+        Err(Refusal::BadNumber)
     }
-    26
 }
 
 // The synthesis that brings a face to the requested attributes, under a reading.
+#[tactic(auto, using(crate::proofs::Readings::readings), unfolding(crate::specs::Synthesis::synthesis_of, crate::specs::Synthesis::synthesis_in, font::specs::Refusals::refusal_in, crate::specs::Matching::attributes_from))]
 pub fn synthesis(
     font: FontInfo,
     reading: u32,
     width: FontWidth,
     style: FontStyle,
     weight: FontWeight,
-) -> Synthesis
-    ensures { result ≡ synthesis_of reading font (attributes_from width style weight) }
+) -> Result<Synthesis, Refusal>
+    ensures { synthesis_in result ≡ synthesis_of reading font (attributes_from width style weight) }
 {
     let request = Attributes {
         width,
         style,
         weight,
     };
-    let refusal = synthesis_refusal(font, reading, request);
-    if refusal != 0 {
-        return Synthesis::unvaried(refusal, false, 0);
-    }
-    let own = font.attributes;
-    synthesis::synthesize(own, varies(font), reading, request)
+    let reading = synthesis_refusal(font, reading, request)?;
+    synthesis::synthesize(font.attributes, varies(font), reading, request)
 }

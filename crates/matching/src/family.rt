@@ -1,12 +1,14 @@
 // Model for font families.
 ghost use Rattle.std.specs.Prelude.{◌≡◌};
-ghost use Rattle.matching.specs.Family.{made_of, fetched};
+ghost use Rattle.matching.specs.Family.{made_of, made_in, fetched, fetched_in};
 
-use crate::rows::COLUMNS;
-use crate::{matching, stages};
+use crate::matching;
+use crate::rows::{FamilyRows, Row};
 use font::font::FontInfo;
+use font::refusal::Refusal;
 
-// The faces of a family by value, with the place of its default. Faces past the count are no part of it.
+// The faces of a family by value, with the place of its default. Faces past the count are no part of it: the array is fixed,
+// since there is no heap.
 #[derive(Clone, Copy)]
 pub struct FamilyInfo {
     pub fonts: [FontInfo; 64],
@@ -14,73 +16,37 @@ pub struct FamilyInfo {
     pub default_font: usize,
 }
 
-// A family that was made, with the refusal, which is 0 for none.
-#[derive(Clone, Copy)]
-pub struct Made {
-    pub refusal: u8,
-    pub family: FamilyInfo,
-}
-
-// A face that was fetched, with the refusal, which is 0 for none.
-#[derive(Clone, Copy)]
-pub struct Fetched {
-    pub refusal: u8,
-    pub font: FontInfo,
-}
-
 impl FamilyInfo {
     // A family of the faces, with its default.
-    pub fn new(fonts: [FontInfo; 64], count: usize) -> Made
-        ensures { result ≡ made_of fonts count }
+    pub fn new(fonts: [FontInfo; 64], count: usize) -> Result<Self, Refusal>
+        ensures { made_in fonts count result ≡ made_of fonts count }
     {
-        if 64 < count {
-            let family = FamilyInfo {
-                fonts,
-                count,
-                default_font: 0,
-            };
-            return Made {
-                refusal: 19,
-                family,
-            };
-        }
-        let mut rows = [[0u32; COLUMNS]; 64];
-        let mut refusal: u8 = 0;
-        let mut i: usize = 0;
-        while i < count {
-            let font = fonts[i];
-            refusal = matching::take_face(&mut rows, i, font, refusal);
-            i += 1;
-        }
-        let mut default_font: usize = 0;
-        if refusal == 0 {
-            let own = [0u8; 0];
-            default_font = stages::default_place(&rows, &own, count);
-        }
-        let family = FamilyInfo {
+        let mut rows = [Row::BLANK; 64];
+        matching::take_faces(&fonts, count, &mut rows)?;
+        let family = FamilyRows {
+            rows: &rows,
+            members: &[],
+            count,
+        };
+        Ok(FamilyInfo {
             fonts,
             count,
-            default_font,
-        };
-        Made { refusal, family }
+            default_font: family.default_place(),
+        })
     }
 
-    // The face at a place: 19 for too many faces or axes, then 24 for no such place, and nothing further.
-    pub fn match_font(self, place: usize) -> Fetched
-        ensures { result ≡ fetched self place }
+    // The face at a place, refused for too many faces or axes, then for no such place, and for nothing further.
+    pub fn match_font(self, place: usize) -> Result<FontInfo, Refusal>
+        ensures { fetched_in self result ≡ fetched self place }
     {
-        let fonts = self.fonts;
-        let count = self.count;
-        let refusal = matching::faces_refusal(fonts, count);
-        if refusal == 19 {
-            let font = fonts[0];
-            return Fetched { refusal: 19, font };
+        let refusal = matching::faces_refusal(&self.fonts, self.count);
+        if refusal == Err(Refusal::OverLimit) {
+            return Err(Refusal::OverLimit);
         }
-        if place < count {
-            let font = fonts[place];
-            return Fetched { refusal: 0, font };
+        if place < self.count {
+            Ok(self.fonts[place])
+        } else {
+            Err(Refusal::NoFace)
         }
-        let font = fonts[0];
-        Fetched { refusal: 24, font }
     }
 }

@@ -1,35 +1,21 @@
 // Implementation of the CSS font matching algorithm, on a family by value.
-ghost use Rattle.std.specs.Prelude.{◌≡◌, cond, [], ◌<◌, eqb, length, set};
-ghost use Rattle.font.specs.Attributes.{accepted_attributes};
+ghost use Rattle.std.specs.Prelude.{◌≡◌, ◌<◌, IfOk, IfSome};
 ghost use Rattle.font.specs.Overrides.{face_refusal};
-ghost use Rattle.matching.specs.Order.{laid_out};
-ghost use Rattle.matching.specs.Matching.{style_number, request_of, attributes_from, faces_refusal, match_font, ChosenOf, equal_list};
-ghost use Rattle.matching.specs.Rows.{face_row, either_refusal};
+ghost use Rattle.font.specs.Refusals.{refusal_in};
+ghost use Rattle.matching.specs.Matching.{style_number, request_of, attributes_from, faces_refusal, family_refusal, match_font, choice_in, ChosenOf, equal_list, matches_in};
+ghost use Rattle.matching.specs.Rows.{either_refusal, TakenRows};
 
 use crate::order::Request;
-use crate::rows::{COLUMNS, Row};
+use crate::rows::{FamilyRows, Row};
 use crate::stages::Places;
-use crate::{rows, stages};
 use font::attributes::{Angle, Attributes, FontStyle, FontWeight, FontWidth};
 use font::font::FontInfo;
+use font::refusal::Refusal;
 use font::{overrides, single};
 
-// What is chosen of a family: a place, nothing, or a refusal.
-#[derive(Clone, Copy)]
-pub enum Choice {
-    Place(usize),
-    Nothing,
-    Refused(u8),
-}
-
-// The equal list, with the refusal, which is 0 for none.
-#[derive(Clone, Copy)]
-pub struct Matches {
-    pub refusal: u8,
-    pub list: Places,
-}
-
-// A style as one number: 0 normal, 1 italic, 2 oblique unstated, else the order number of the angle.
+// A style as one number: 0 normal, 1 italic, 2 oblique unstated, else the order number of the angle. So a row stays short, and
+// styles are compared and ranked as percents and weights are.
+#[tactic(auto, unfolding(crate::specs::Matching::style_number))]
 pub fn style_number(style: FontStyle) -> u32
     ensures { result ≡ style_number style }
 {
@@ -44,72 +30,104 @@ pub fn style_number(style: FontStyle) -> u32
 }
 
 // The request's numbers.
+#[tactic(auto, unfolding(crate::specs::Matching::request_of))]
 pub fn request_of(attributes: Attributes, synthesize_style: bool) -> Request
     ensures { result ≡ request_of attributes synthesize_style }
 {
-    let style = attributes.style;
     Request {
         percent: single::whole_percent(attributes.width.ratio),
-        style: style_number(style),
+        style: style_number(attributes.style),
         weight: single::order_number(attributes.weight.value),
         synthesis: synthesize_style,
     }
 }
 
-// Of two refusals of faces the one that counts: 19, then 26.
-fn either_refusal(before: u8, found: u8) -> u8
-    ensures { result ≡ either_refusal before found }
+// The refusal of faces and of one more: over the limit counts first, then a number that is not accepted.
+fn either_refusal(before: Result<(), Refusal>, font: FontInfo) -> Result<(), Refusal>
+    ensures { refusal_in result ≡ either_refusal (refusal_in before) (face_refusal font) }
 {
-    if found == 19 {
-        return 19;
+    let found = overrides::face_refusal(font);
+    if before == Err(Refusal::OverLimit) {
+        before
+    } else {
+        found.and(before)
     }
-    if before == 19 {
-        return 19;
-    }
-    if found == 26 { 26 } else { before }
 }
 
-// The refusal of a family's faces: 19, 26 or 0.
-pub(crate) fn faces_refusal(fonts: [FontInfo; 64], count: usize) -> u8
-    ensures { result ≡ faces_refusal fonts count }
+// Whether a family's faces are refused: over the limit, then for a number that is not accepted.
+pub(crate) fn faces_refusal(fonts: &[FontInfo; 64], count: usize) -> Result<(), Refusal>
+    ensures { refusal_in result ≡ faces_refusal fonts.now count }
 {
     if 64 < count {
-        return 19;
+        return Err(Refusal::OverLimit);
     }
-    let mut refusal: u8 = 0;
-    let mut i: usize = 0;
-    while i < count {
-        let font = fonts[i];
-        refusal = either_refusal(refusal, overrides::face_refusal(font));
-        i += 1;
+    let mut found = Ok(());
+    for font in &fonts[..count] {
+        found = either_refusal(found, *font);
+    }
+    found
+}
+
+// Writes the row of each face of a family, and says whether they are refused.
+pub(crate) fn take_faces(
+    fonts: &[FontInfo; 64],
+    count: usize,
+    rows: &mut [Row; 64],
+) -> Result<(), Refusal>
+    ensures value { refusal_in result ≡ faces_refusal fonts.now count }
+    ensures taken { IfOk result (λ _. TakenRows fonts.now count rows.new) }
+{
+    if 64 < count {
+        return Err(Refusal::OverLimit);
+    }
+    let mut refusal = Ok(());
+    for (place, font) in fonts[..count].iter().enumerate() {
+        rows[place] = Row::of_face(font);
+        refusal = either_refusal(refusal, *font);
     }
     refusal
 }
 
-// Writes the row of the face at a place. Gives the refusal of the faces so far.
-pub(crate) fn take_face(rows: &mut [Row; 64], place: usize, font: FontInfo, before: u8) -> u8
-    requires { (place < 64) × (length rows.old ≡ 64) }
-    ensures value { result ≡ either_refusal before (face_refusal font) }
-    ensures rows_after { rows.new ≡ set rows.old place (face_row font) }
+// As `take_faces`, and then whether the request is refused.
+fn take_family(
+    fonts: &[FontInfo; 64],
+    count: usize,
+    request: Attributes,
+    rows: &mut [Row; 64],
+) -> Result<(), Refusal>
+    ensures value { refusal_in result ≡ family_refusal fonts.now count request }
+    ensures taken { IfOk result (λ _. TakenRows fonts.now count rows.new) }
 {
-    rows[place] = rows::face_row(font);
-    either_refusal(before, overrides::face_refusal(font))
+    take_faces(fonts, count, rows)?;
+    if request.accepted() {
+        Ok(())
+    } else {
+        Err(Refusal::BadNumber)
+    }
 }
 
-// The refusal of a call on a family with a request, by that of the faces.
-fn with_request(faces: u8, attributes: Attributes) -> u8
-    ensures { result ≡ cond (eqb faces 0) (cond (accepted_attributes attributes) 0 26) faces }
+// Writes the rows of a family, and chooses a place.
+fn choose(
+    fonts: &[FontInfo; 64],
+    count: usize,
+    request: Attributes,
+    synthesize_style: bool,
+    rows: &mut [Row; 64],
+) -> Result<Option<usize>, Refusal>
+    ensures value { choice_in result ≡ match_font fonts.now count request synthesize_style }
+    ensures taken { IfOk result (λ _. TakenRows fonts.now count rows.new) }
+    ensures within { IfOk result (λ chosen. IfSome chosen (λ place. place < count)) }
 {
-    if faces != 0 {
-        return faces;
-    }
-    if attributes.accepted() {
-        return 0;
-    }
-    26
+    take_family(fonts, count, request, rows)?;
+    let family = FamilyRows {
+        rows,
+        members: &[],
+        count,
+    };
+    Ok(family.choose(request_of(request, synthesize_style)))
 }
 
-// The place that stands before every other.
+// The place that stands before every other, if one is chosen.
 pub fn match_font(
     fonts: [FontInfo; 64],
     count: usize,
@@ -117,46 +135,17 @@ pub fn match_font(
     style: FontStyle,
     weight: FontWeight,
     synthesize_style: bool,
-) -> Choice
-    ensures value { result ≡ match_font fonts count (attributes_from width style weight) synthesize_style }
-    ensures demand { ChosenOf fonts count (attributes_from width style weight) synthesize_style result }
+) -> Result<Option<usize>, Refusal>
+    ensures value { choice_in result ≡ match_font fonts count (attributes_from width style weight) synthesize_style }
+    ensures demand { ChosenOf fonts count (attributes_from width style weight) synthesize_style (choice_in result) }
 {
-    let attributes = Attributes {
+    let request = Attributes {
         width,
         style,
         weight,
     };
-    if 64 < count {
-        return Choice::Refused(19);
-    }
-    let mut rows = [[0u32; COLUMNS]; 64];
-    let mut found: u8 = 0;
-    let mut i: usize = 0;
-    while i < count {
-        let font = fonts[i];
-        found = take_face(&mut rows, i, font, found);
-        i += 1;
-    }
-    let refusal = with_request(found, attributes);
-    if refusal != 0 {
-        return Choice::Refused(refusal);
-    }
-    let own = [0u8; 0];
-    let place = stages::choose(&rows, &own, count, request_of(attributes, synthesize_style));
-    if place < count {
-        return Choice::Place(place);
-    }
-    Choice::Nothing
-}
-
-// No equal list.
-fn refused_list(refusal: u8) -> Matches
-    ensures { (result.refusal ≡ refusal) × (result.list ≡ laid_out []) }
-{
-    Matches {
-        refusal,
-        list: stages::none(),
-    }
+    let mut rows = [Row::BLANK; 64];
+    choose(&fonts, count, request, synthesize_style, &mut rows)
 }
 
 // Every place whose exact ratio, style and weight equal the chosen face's, in place order.
@@ -167,31 +156,20 @@ pub fn match_fonts(
     style: FontStyle,
     weight: FontWeight,
     synthesize_style: bool,
-) -> Matches
-    ensures { result ≡ equal_list fonts count (match_font fonts count (attributes_from width style weight) synthesize_style) }
+) -> Result<Places, Refusal>
+    ensures { matches_in result ≡ equal_list fonts count (match_font fonts count (attributes_from width style weight) synthesize_style) }
 {
-    let attributes = Attributes {
+    let request = Attributes {
         width,
         style,
         weight,
     };
-    if 64 < count {
-        return refused_list(19);
-    }
-    let mut rows = [[0u32; COLUMNS]; 64];
-    let mut found: u8 = 0;
-    let mut i: usize = 0;
-    while i < count {
-        let font = fonts[i];
-        found = take_face(&mut rows, i, font, found);
-        i += 1;
-    }
-    let refusal = with_request(found, attributes);
-    if refusal != 0 {
-        return refused_list(refusal);
-    }
-    let own = [0u8; 0];
-    let place = stages::choose(&rows, &own, count, request_of(attributes, synthesize_style));
-    let list = stages::equal_places(&rows, count, place);
-    Matches { refusal: 0, list }
+    let mut rows = [Row::BLANK; 64];
+    let chosen = choose(&fonts, count, request, synthesize_style, &mut rows)?;
+    let family = FamilyRows {
+        rows: &rows,
+        members: &[],
+        count,
+    };
+    Ok(family.equal_places(chosen))
 }

@@ -25,6 +25,7 @@ pub struct Request {
 }
 
 // Where a percent stands.
+#[tactic(auto, unfolding(crate::specs::Order::width_standing))]
 pub(crate) fn width_standing(wanted: u32, percent: u32) -> Standing
     ensures { result ≡ width_standing wanted percent }
 {
@@ -44,6 +45,7 @@ pub(crate) fn width_standing(wanted: u32, percent: u32) -> Standing
 }
 
 // The angle that a style ranks by: 14 where unstated.
+#[tactic(auto, using(crate::proofs::Numbers::fourteen_is), unfolding(crate::specs::Order::angle))]
 fn angle_of(style: u32) -> u32
     ensures { result ≡ angle style }
 {
@@ -51,6 +53,7 @@ fn angle_of(style: u32) -> u32
 }
 
 // Where another style stands for a normal request.
+#[tactic(auto, using(crate::proofs::Numbers::zero_angle_lem), unfolding(crate::specs::Order::normal_standing))]
 fn normal_standing(style: u32) -> Standing
     ensures { result ≡ normal_standing style }
 {
@@ -65,6 +68,7 @@ fn normal_standing(style: u32) -> Standing
 }
 
 // Where another style stands for an italic request.
+#[tactic(auto, using(crate::proofs::Numbers::zero_angle_lem, crate::proofs::Numbers::fourteen_is), unfolding(crate::specs::Order::italic_standing, crate::specs::Order::oblique))]
 fn italic_standing(style: u32) -> Standing
     ensures { result ≡ italic_standing style }
 {
@@ -85,6 +89,7 @@ fn italic_standing(style: u32) -> Standing
 }
 
 // Where a style that has no angle on the side of an oblique request stands.
+#[tactic(auto, using(crate::proofs::Numbers::zero_angle_lem), unfolding(crate::specs::Order::other_standing))]
 fn other_standing(synthesis: bool, slant: bool, wanted: u32, style: u32) -> Standing
     ensures { result ≡ other_standing synthesis slant wanted style }
 {
@@ -145,6 +150,7 @@ fn oblique_standing(synthesis: bool, slant: bool, wanted: u32, style: u32) -> St
 }
 
 // Where a style stands; `slant` says whether a slant axis is at that width.
+#[tactic(auto, unfolding(crate::specs::Order::style_standing))]
 pub(crate) fn style_standing(synthesis: bool, slant: bool, wanted: u32, style: u32) -> Standing
     ensures { result ≡ style_standing synthesis slant wanted style }
 {
@@ -161,6 +167,7 @@ pub(crate) fn style_standing(synthesis: bool, slant: bool, wanted: u32, style: u
 }
 
 // Where a weight stands.
+#[tactic(auto, using(crate::proofs::Numbers::four_hundred_lem, crate::proofs::Numbers::five_hundred_lem), unfolding(crate::specs::Order::weight_standing))]
 pub(crate) fn weight_standing(wanted: u32, weight: u32) -> Standing
     ensures { result ≡ weight_standing wanted weight }
 {

@@ -1,5 +1,5 @@
 // The one way of ranking: turns, ascending or descending by an order number, then by place.
-ghost use Rattle.std.specs.Prelude.{◌≡◌, ◌<◌, min};
+ghost use Rattle.std.specs.Prelude.{◌≡◌, ◌<◌};
 ghost use Rattle.matching.specs.Packed.{packed, place_of};
 
 // Where a thing stands: the turn of its group and its order number there, or in no group.
@@ -13,7 +13,7 @@ pub(crate) enum Standing {
 // The rank of what is in no group: after every other.
 pub(crate) const NOWHERE: u64 = 0xFFFF_FFFF_FFFF_FFFF;
 
-// A standing and a place as one number, so that the lower number stands before.
+// A standing and a place as one number, so that the lower number stands before: a scan compares one number for each face.
 pub(crate) fn pack(standing: Standing, place: usize) -> u64
     requires { place < 64 }
     ensures { result ≡ packed standing place }
@@ -31,6 +31,7 @@ pub(crate) fn pack(standing: Standing, place: usize) -> u64
 }
 
 // The place that a number below NOWHERE was packed from.
+#[tactic(auto, unfolding(crate::specs::Packed::place_of))]
 pub(crate) fn place_of(rank: u64) -> usize
     ensures { result ≡ place_of rank }
 {
@@ -40,11 +41,4 @@ pub(crate) fn place_of(rank: u64) -> usize
     } else {
         63 - low
     }
-}
-
-// The lower of two ranks.
-pub(crate) fn lower(a: u64, b: u64) -> u64
-    ensures { result ≡ min a b }
-{
-    if a < b { a } else { b }
 }

@@ -20,12 +20,14 @@ fn print_case(rt: &impl Print, list: &[u8]) -> io::Result<usize>
     let end = 4 + tables::u32_at(list, 0) as usize;
     if end <= list.len() {
         let job = &list[4..end];
-        lines::print_job(rt, job, 0, true)?;
-        lines::print_job(rt, job, 1, true)?;
+        for reading in [0, 1] {
+            let _ = lines::print_job(rt, job, reading, true)?;
+        }
     }
     Ok(end)
 }
 
+// The position goes on by what each job takes. `match_cases` has the same loop: in a library it would have nothing to promise.
 fn print_list(rt: &impl Print, list: &[u8]) -> io::Result<()> {
     let mut at: usize = 0;
     while at < list.len() {

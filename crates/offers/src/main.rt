@@ -7,7 +7,7 @@ use std::env::FillError;
 use std::io;
 use std::rt::Env;
 
-// A number that no reading has.
+// A number that no reading has: `print_job` takes a number and prints the refusal of this one.
 const NO_READING: u32 = 2;
 
 // The reading of a word.
@@ -22,17 +22,11 @@ fn reading_of(word: u8) -> u32 {
 // The reading that the program was started with. Any other word, and more than one, names none.
 fn reading(rt: &impl Env) -> u32 {
     let mut word = [0u8; 1];
-    let length = match rt.arg(1, &mut word) {
-        Ok(length) => length,
-        Err(FillError::NotPresent) => return 0,
-        Err(FillError::TooLong) => return NO_READING,
-    };
-    if let Err(FillError::NotPresent) = rt.arg(2, &mut []) {
-        if length == 1 {
-            return reading_of(word[0]);
-        }
+    match (rt.arg(1, &mut word), rt.arg(2, &mut [])) {
+        (Err(FillError::NotPresent), _) => 0,
+        (Ok(1), Err(FillError::NotPresent)) => reading_of(word[0]),
+        _ => NO_READING,
     }
-    NO_READING
 }
 
 fn main(rt: HostRuntime) -> io::Result<()> {
@@ -41,7 +35,7 @@ fn main(rt: HostRuntime) -> io::Result<()> {
     if 65536 < n {
         rt.write_all(b"too long\n")
     } else {
-        lines::print_job(&rt, &space[..n], reading(&rt), false)?;
+        let _ = lines::print_job(&rt, &space[..n], reading(&rt), false)?;
         Ok(())
     }
 }

@@ -1,15 +1,35 @@
 // Small font files: OS/2, cmap with one record, fvar. Bytes that are no field hold filler.
 ghost use Rattle.std.specs.Prelude.{◌<◌};
 
-use crate::put;
-use crate::put::Space;
+use crate::put::Writer;
+use std::alloc::AllocError;
+
+// The platform and the encoding of a cmap record.
+#[derive(Clone, Copy)]
+pub struct Record {
+    platform: u16,
+    encoding: u16,
+}
+
+pub const UNICODE: Record = Record {
+    platform: 3,
+    encoding: 1,
+};
+
+pub const SYMBOL: Record = Record {
+    platform: 3,
+    encoding: 0,
+};
+
+pub const MAC_ROMAN: Record = Record {
+    platform: 1,
+    encoding: 0,
+};
 
 #[derive(Clone, Copy)]
 pub struct Font {
     pub weight: u16,
-    // The pair of the cmap record.
-    pub platform: u16,
-    pub encoding: u16,
+    pub record: Record,
     pub axes: u8,
     // Bytes between OS/2 and cmap.
     pub gap: u32,
@@ -31,81 +51,78 @@ fn tag(number: u8) -> u32 {
     }
 }
 
-fn axis(out: &mut Space, at: usize, number: u8) -> usize {
-    let at = put::word(&mut *out, at, tag(number));
-    let at = put::word(&mut *out, at, 0);
-    let at = put::word(&mut *out, at, 400 * 65536);
-    let at = put::word(&mut *out, at, 900 * 65536);
-    put::filler(&mut *out, at, 16, 20, 5)
-}
-
-fn axes(out: &mut Space, at: usize, count: u8) -> usize {
-    let mut next = at;
-    let mut i: u8 = 0;
-    while i < count {
-        next = axis(&mut *out, next, i);
-        i += 1;
-    }
-    next
+fn axis(out: &mut Writer, number: u8) -> Result<(), AllocError> {
+    out.word(tag(number))?;
+    out.word(0)?;
+    out.word(400 * 65536)?;
+    out.word(900 * 65536)?;
+    out.filler(16, 20, 5)
 }
 
 // Width class 5 and no bit of fsSelection.
-fn os2(out: &mut Space, at: usize, weight: u16) -> usize {
-    let at = put::filler(&mut *out, at, 0, 4, 1);
-    let at = put::half(&mut *out, at, weight);
-    let at = put::half(&mut *out, at, 5);
-    let at = put::filler(&mut *out, at, 8, 62, 1);
-    let at = put::half(&mut *out, at, 0);
-    put::filler(&mut *out, at, 64, 78, 1)
+fn os2(out: &mut Writer, weight: u16) -> Result<(), AllocError> {
+    out.filler(0, 4, 1)?;
+    out.half(weight)?;
+    out.half(5)?;
+    out.filler(8, 62, 1)?;
+    out.half(0)?;
+    out.filler(64, 78, 1)
 }
 
-fn cmap(out: &mut Space, at: usize, platform: u16, encoding: u16) -> usize {
-    let at = put::word(&mut *out, at, 1);
-    let at = put::half(&mut *out, at, platform);
-    let at = put::half(&mut *out, at, encoding);
-    let at = put::word(&mut *out, at, 12);
-    put::filler(&mut *out, at, 0, 2, 6)
+fn cmap(out: &mut Writer, record: Record) -> Result<(), AllocError> {
+    out.word(1)?;
+    out.half(record.platform)?;
+    out.half(record.encoding)?;
+    out.word(12)?;
+    out.filler(0, 2, 6)
 }
 
-fn fvar(out: &mut Space, at: usize, count: u8) -> usize {
-    let at = put::filler(&mut *out, at, 0, 4, 4);
-    let at = put::half(&mut *out, at, 16);
-    let at = put::filler(&mut *out, at, 6, 8, 4);
-    let at = put::half(&mut *out, at, count as u16);
-    let at = put::half(&mut *out, at, 20);
-    let at = put::filler(&mut *out, at, 12, 16, 4);
-    axes(&mut *out, at, count)
+fn fvar(out: &mut Writer, count: u8) -> Result<(), AllocError> {
+    out.filler(0, 4, 4)?;
+    out.half(16)?;
+    out.filler(6, 8, 4)?;
+    out.half(count as u16)?;
+    out.half(20)?;
+    out.filler(12, 16, 4)?;
+    for number in 0..count {
+        axis(out, number)?;
+    }
+    Ok(())
 }
 
 // A record of the directory.
-fn entry(out: &mut Space, at: usize, tag: u32, number: u8, offset: u32, length: u32) -> usize {
-    let at = put::word(&mut *out, at, tag);
-    let at = put::word(&mut *out, at, 0x5EED_0000 + number as u32);
-    let at = put::word(&mut *out, at, offset);
-    put::word(&mut *out, at, length)
+fn entry(
+    out: &mut Writer,
+    tag: u32,
+    number: u8,
+    offset: u32,
+    length: u32,
+) -> Result<(), AllocError> {
+    out.word(tag)?;
+    out.word(0x5EED_0000 + number as u32)?;
+    out.word(offset)?;
+    out.word(length)
 }
 
-fn directory(out: &mut Space, at: usize, font: Font) -> usize
+fn directory(out: &mut Writer, font: Font) -> Result<(), AllocError>
     requires { font.gap < 16777216 }
 {
-    let at = put::word(&mut *out, at, 0x0001_0000);
-    let at = put::half(&mut *out, at, 3);
-    let at = put::filler(&mut *out, at, 0, 6, 7);
-    let at = entry(&mut *out, at, OS2, 0, 60, 78);
-    let at = entry(&mut *out, at, CMAP, 1, 138 + font.gap, 14);
-    let length = 16 + 20 * font.axes as u32;
-    entry(&mut *out, at, FVAR, 2, 152 + font.gap, length)
+    out.word(0x0001_0000)?;
+    out.half(3)?;
+    out.filler(0, 6, 7)?;
+    entry(out, OS2, 0, 60, 78)?;
+    entry(out, CMAP, 1, 138 + font.gap, 14)?;
+    entry(out, FVAR, 2, 152 + font.gap, 16 + 20 * font.axes as u32)
 }
 
 // The length of the file, and the file.
-pub fn file(out: &mut Space, at: usize, font: Font) -> usize
+pub fn file(out: &mut Writer, font: Font) -> Result<(), AllocError>
     requires { font.gap < 16777216 }
 {
-    let length = 168 + font.gap + 20 * font.axes as u32;
-    let at = put::word(&mut *out, at, length);
-    let at = directory(&mut *out, at, font);
-    let at = os2(&mut *out, at, font.weight);
-    let at = put::filler(&mut *out, at, 0, font.gap, 8);
-    let at = cmap(&mut *out, at, font.platform, font.encoding);
-    fvar(&mut *out, at, font.axes)
+    out.word(168 + font.gap + 20 * font.axes as u32)?;
+    directory(out, font)?;
+    os2(out, font.weight)?;
+    out.filler(0, font.gap, 8)?;
+    cmap(out, font.record)?;
+    fvar(out, font.axes)
 }

@@ -1,26 +1,12 @@
-// Bytes appended to an array. Each function begins at `at` and answers where the next byte goes; what has no room is
-// left out, and the length that is printed shows it.
+// Bytes put behind one another.
 ghost use Rattle.std.specs.Prelude.{◌<◌, ◌≤◌};
 
-// Where a job is built: more bytes than any job here has.
-pub type Space = [u8; 1_100_000];
+use std::alloc::{AllocError, Global};
 
-pub fn byte(out: &mut Space, at: usize, x: u8) -> usize {
-    if at < 1_100_000 {
-        out[at] = x;
-        return at + 1;
-    }
-    at
-}
-
-pub fn half(out: &mut Space, at: usize, x: u16) -> usize {
-    let next = byte(&mut *out, at, (x / 256) as u8);
-    byte(&mut *out, next, (x % 256) as u8)
-}
-
-pub fn word(out: &mut Space, at: usize, x: u32) -> usize {
-    let next = half(&mut *out, at, (x / 65536) as u16);
-    half(&mut *out, next, (x % 65536) as u16)
+// The bytes of a job so far.
+#[derive(Drop)]
+pub struct Writer {
+    pub bytes: Vec<u8>,
 }
 
 // A byte that no field should be mistaken for.
@@ -28,39 +14,49 @@ pub fn filler_byte(i: u32, salt: u8) -> u8 {
     (((i % 256) * 73 + salt as u32) % 256) as u8 ^ 0xA5
 }
 
-// The filler of a table, from one position of it to another.
-pub fn filler(out: &mut Space, at: usize, from: u32, end: u32, salt: u8) -> usize {
-    let mut next = at;
-    let mut i = from;
-    while i < end {
-        next = byte(&mut *out, next, filler_byte(i, salt));
-        i += 1;
+impl Writer {
+    pub fn new(alloc: Global) -> Self {
+        Writer {
+            bytes: Vec::new(alloc),
+        }
     }
-    next
-}
 
-// One step on, and again from 0 at the divisor.
-fn step_on(number: u16, step: u16, divisor: u16) -> u16
-    requires { (number < divisor) × (step ≤ divisor) × (divisor ≤ 256) }
-    ensures { result < divisor }
-{
-    if number + step < divisor {
-        return number + step;
+    pub fn byte(&mut self, x: u8) -> Result<(), AllocError> {
+        self.bytes.push(x)?;
+        Ok(())
     }
-    number + step - divisor
-}
 
-// Numbers in steps, each as what is left after division.
-pub fn numbers(out: &mut Space, at: usize, count: u16, first: u16, step: u16, divisor: u16) -> usize
-    requires { (first < divisor) × (step ≤ divisor) × (divisor ≤ 256) }
-{
-    let mut next = at;
-    let mut number = first;
-    let mut i: u16 = 0;
-    while i < count {
-        next = half(&mut *out, next, number);
-        number = step_on(number, step, divisor);
-        i += 1;
+    pub fn half(&mut self, x: u16) -> Result<(), AllocError> {
+        self.bytes.extend_from_slice(&x.to_be_bytes())
     }
-    next
+
+    pub fn word(&mut self, x: u32) -> Result<(), AllocError> {
+        self.bytes.extend_from_slice(&x.to_be_bytes())
+    }
+
+    // The filler of a table, from one position of it to another.
+    pub fn filler(&mut self, from: u32, end: u32, salt: u8) -> Result<(), AllocError> {
+        for i in from..end {
+            self.byte(filler_byte(i, salt))?;
+        }
+        Ok(())
+    }
+
+    // Numbers in steps, each as what is left after division.
+    pub fn numbers(
+        &mut self,
+        count: u16,
+        first: u16,
+        step: u16,
+        divisor: u16,
+    ) -> Result<(), AllocError>
+        requires { (first < divisor) × (step ≤ divisor) × (divisor ≤ 256) }
+    {
+        let mut number = first;
+        for _ in 0..count {
+            self.half(number)?;
+            number = (number + step) % divisor;
+        }
+        Ok(())
+    }
 }

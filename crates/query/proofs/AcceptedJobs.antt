@@ -7,7 +7,7 @@ use native.Mathlib.Omega.{arith}
 use lib.ListN.{length, drop_of_length-le}
 use lib.Seq.{drop-length}
 use borrow.Author.Tests.{le-leb, le-ltb}
-use Rattle.query.specs.declared.job.Checked.{Checked}
+use Rattle.query.specs.Job.{Checked}
 use Rattle.query.specs.Sizes.{most_bytes, most_faces, most_overrides, most_families, most_requests}
 use Rattle.query.specs.Reader.{Refusal, overlong, past_end, over_limit, not_held, bad_directory, no_charmap, many_axes, no_face, unknown, bad_number, bytes_left, no_font, damaged_table, number, got}
 use Rattle.query.specs.Fields.{counted}

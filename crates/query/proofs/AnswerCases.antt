@@ -1,4 +1,5 @@
 -- The offer call, case by case: what each return of its code has to show.
+use Rattle.std.specs.Prelude.{Option, None, Some}
 use Prim.Native.Nat.{ℕ, zero, suc, ◌+◌, ◌-◌, ◌^◌, ◌≤◌, ◌<◌}
 use mathlib.Core.Path.{◌≡◌, refl, sym, ap, ◌∙◌}
 use mathlib.Core.Bool.{Bool, true, false, cond}
@@ -19,19 +20,19 @@ use Rattle.font.specs.Slant.{is_reading}
 use Rattle.font.specs.Overrides.{with_override}
 use Rattle.font.proofs.Inside.{offset_inside}
 use Rattle.matching.specs.declared.order.Request as Matching
-use Rattle.matching.specs.declared.synthesis.Synthesis.{Synthesis}
+use Rattle.matching.specs.Synthesis.{SynthesisAnswer}
 use Rattle.matching.specs.declared.synthesis.Setting.{Setting}
-use Rattle.matching.specs.declared.synthesis.Setting.TheVariants.{Unset, Set}
+use Rattle.matching.specs.declared.synthesis.Varies.{Varies}
 use Rattle.matching.specs.Matching.{request_of}
 use Rattle.matching.specs.Synthesis.{unvaried, put, added, synthesized, varies_of}
 use Rattle.matching.proofs.SettingValues.{setting_numbers}
+use Rattle.matching.specs.declared.rows.Row.{Row}
+use Rattle.matching.proofs.ThreeSettings.{three}
 use Rattle.query.specs.declared.answer.Offer.{Offer}
-use Rattle.query.specs.declared.offers.Offered.{Offered}
-use Rattle.query.specs.declared.offers.Offered.TheVariants.{At, Past}
-use Rattle.query.specs.declared.answer.Answer.{Answer}
-use Rattle.query.specs.declared.call.SearchResult.{SearchResult}
-use Rattle.query.specs.declared.job.Checked.{Checked}
-use Rattle.query.specs.declared.job.Walked.{Walked}
+use Rattle.query.specs.Call.{CallAnswer}
+use Rattle.query.specs.Listed.{SearchResult}
+use Rattle.query.specs.Job.{Checked}
+use Rattle.query.specs.Positions.{WalkEnd}
 use Rattle.query.specs.Sizes.{record_size, most_bytes}
 use Rattle.query.specs.Reader.{overlong, number, Got, refused, got}
 use Rattle.query.specs.Layout.{Bytes, angle_of, Every, Fits32, AngleFits, StyleFits, FaceFits, RequestFits, JobFits}
@@ -41,7 +42,7 @@ use Rattle.query.specs.View.{View, overridden_by, after_overrides, no_entry, ent
 use Rattle.query.specs.Offers.{offer_of, members_of, offers, offers_of, face_of_offer, synthesis_of_offer, offer_at}
 use Rattle.query.specs.Values.{attributes_at, request_at}
 use Rattle.query.specs.CallTables.{OfferedFace, RowsShow, TablesOf, LoadAnswer}
-use Rattle.query.specs.Listed.{listed_at, Names, answer_at, Locates, SearchAnswer, LeadsTo}
+use Rattle.query.specs.Listed.{listed_at, Names, answer_at, found_nothing, Locates, SearchAnswer, LeadsTo}
 use Rattle.query.specs.Record.{Numbers, record_bytes}
 use Rattle.query.specs.Call.{Called, without_offer, with_synthesis, answered, request_of_job, view_answer, request_answer, job_answer, refuses_reading, answer_call, written, unwritten, offer_call, Calls}
 use Rattle.query.proofs.AcceptedJobs.{accepted_is_a_layout}
@@ -53,14 +54,15 @@ use Rattle.query.proofs.SoundOffers.{offers_named}
 -- ---- the answer to a request and an offer number
 
 -- a search that gives a result alone
-pub finds_none : {reading : ℕ} {s : List ℕ} {a : Answer} {f : SearchResult} {n : ℕ} → f.result ≡ n → (n ≡ 0 → ⊥) → without_offer n ≡ a → LeadsTo reading s a f
-finds_none is h e =
-    record {
-      readable = λ z. absurd (h (sym is ∙ z));
-      leads = λ r. r.none (λ z. h (sym is ∙ z)) ∙ ap without_offer is ∙ e;
-    }
+pub finds_none : {reading : ℕ} {s : List ℕ} {a : CallAnswer} (n : ℕ) → (n ≡ 0 → ⊥) → without_offer n ≡ a → LeadsTo reading s a (found_nothing n)
+unfolding found_nothing
+finds_none n h e = record { readable = λ z. absurd (h z); leads = λ r. r.none h ∙ e }
 
-pub finds_same : {reading : ℕ} {s : List ℕ} {a b : Answer} {f : SearchResult} → a ≡ b → LeadsTo reading s a f → LeadsTo reading s b f
+pub leads_none : {reading : ℕ} {s : List ℕ} {a : CallAnswer} (n : ℕ) → (n ≡ 0 → ⊥) → LeadsTo reading s a (found_nothing n) → without_offer n ≡ a
+unfolding found_nothing
+leads_none n h finds = finds.leads (record { none = λ _. refl; some = λ z. absurd (h z) })
+
+pub finds_same : {reading : ℕ} {s : List ℕ} {a b : CallAnswer} {f : SearchResult} → a ≡ b → LeadsTo reading s a f → LeadsTo reading s b f
 finds_same e finds = record { readable = finds.readable; leads = λ r. finds.leads r ∙ e }
 
 -- a value that is no reading: 25, but 17 where the job is too long
@@ -102,7 +104,7 @@ module _ (s : List ℕ) (reading : ℕ) (known : is_reading reading ≡ true) (k
     a_request there = called ∙ rw (lt-ltb k (length j.requests) there)
 
 -- the same from what was loaded for the request of a number
-module _ {reading : ℕ} (known_reading : is_reading reading ≡ true) {s : List ℕ} {w : Walked} {rows : List (List ℕ)} {families : List ℕ} {k : ℕ}
+module _ {reading : ℕ} (known_reading : is_reading reading ≡ true) {s : List ℕ} {w : WalkEnd} {rows : List Row} {families : List ℕ} {k : ℕ}
     (loads : LoadAnswer reading s w rows families k) where
   pub refusal_is : w.refusal ≡ (check_job s).refusal
   refusal_is = ap (λ (c : Checked). c.refusal) loads.checked
@@ -130,20 +132,20 @@ module _ {reading : ℕ} (known_reading : is_reading reading ≡ true) {s : List
 -- ---- the request that lies at a position
 
 -- the offer of a number is one of the list
-in_list : (list : List Offer) (n : ℕ) (o : Offer) → offer_at list n ≡ At o → (n < length list) × (get_or list n (offer_of 0 0) ≡ o)
+in_list : (list : List Offer) (n : ℕ) (o : Offer) → offer_at list n ≡ Some o → (n < length list) × (get_or list n (offer_of 0 0) ≡ o)
 unfolding offer_at
 in_list list n o e = go (ltb n (length list)) refl
   where
     go : (b : Bool) → ltb n (length list) ≡ b → (n < length list) × (get_or list n (offer_of 0 0) ≡ o)
-    go true t = let l = ltb-true n (length list) t in (l, let p = pick_in At (λ k. Past) list n (offer_of 0 0) l in cc)
+    go true t = let l = ltb-true n (length list) t in (l, let p = pick_in Some (λ k. None) list n (offer_of 0 0) l in cc)
     go false t =
-        let q = pick_past At (λ k. Past) list n (n - length list) (omega (arith, ltb-false n (length list) t)) in
+        let q = pick_past Some (λ k. None) list n (n - length list) (omega (arith, ltb-false n (length list) t)) in
         absurd (let z : ◌≡◌ {A = ℕ} 0 1 = cc in omega arith)
 
-module _ (s : List ℕ) (rows : List (List ℕ)) (p n : ℕ) {wanted : Attributes} (asks : wanted ≡ attributes_at s (p + 2)) {request : Matching.Request} (made : request ≡ request_of wanted true)
-    {found : Offered} (is : found ≡ offer_at (listed_at s rows p request) n) where
+module _ (s : List ℕ) (rows : List Row) (p n : ℕ) {wanted : Attributes} (asks : wanted ≡ attributes_at s (p + 2)) {request : Matching.Request} (made : request ≡ request_of wanted true)
+    {found : (Option Offer)} (is : found ≡ offer_at (listed_at s rows p request) n) where
   -- an offer that is found names a family of the job and a place in it, whatever the rows are of
-  pub found_names : {o : Offer} → found ≡ At o → Names s o
+  pub found_names : {o : Offer} → found ≡ Some o → Names s o
   unfolding listed_at
   found_names {o} some =
       let q = in_list (listed_at s rows p request) n o (sym is ∙ some) in
@@ -165,11 +167,11 @@ module _ (s : List ℕ) (rows : List (List ℕ)) (p n : ℕ) {wanted : Attribute
     unfolding answer_at
     answer_is = ap (answered reading view (request_at s p)) (is ∙ ap (λ (os : List Offer). offer_at os n) list_is)
 
-    pub past_list : found ≡ Past → without_offer 1 ≡ answer_at reading s p n
+    pub past_list : found ≡ None → without_offer 1 ≡ answer_at reading s p n
     unfolding answered
     past_list none = sym (ap (answered reading view (request_at s p)) none) ∙ answer_is
 
-    module _ {o : Offer} (some : found ≡ At o) where
+    module _ {o : Offer} (some : found ≡ Some o) where
       an_offer : {font : FontInfo} → font ≡ face_of_offer view o
           → with_synthesis o (synthesized reading font.attributes (varies_of font) wanted) font.charmap_index ≡ answer_at reading s p n
       unfolding answered synthesis_of_offer request_at
@@ -190,28 +192,20 @@ module _ (s : List ℕ) (rows : List (List ℕ)) (p n : ℕ) {wanted : Attribute
           same font = rw (lies.offer, lies.wanted_is)
 
 -- the answer from the face that was read
-pub face_answered : {reading : ℕ} {s : List ℕ} {f : SearchResult} {font : FontInfo} {a : Answer} → f.result ≡ 0
+pub face_answered : {reading : ℕ} {s : List ℕ} {f : SearchResult} {font : FontInfo} {a : CallAnswer} → f.result ≡ 0
     → OfferedFace reading s f.section f.entry f.number font
     → a ≡ with_synthesis f.offer (synthesized reading font.attributes (varies_of font) f.wanted) font.charmap_index → SearchAnswer reading s f a
 face_answered {font = font} z face is = record { none = λ h. absurd (h z); some = λ _. record { font = font; face = face; is = is } }
 
 -- ---- synthesis
 
--- Width, weight and style each set at most one axis, so an offer's synthesis has no fourth setting: 29 is in the table, and no job leads to it.
-three : (b : Bool) (k : ℤ) (x y z : Setting) → (added (added (added (unvaried 0 b k) x) y) z).refusal ≡ 0
-unfolding added put unvaried
-three b k Unset Unset Unset = refl
-three b k Unset Unset (Set t v) = refl
-three b k Unset (Set t v) Unset = refl
-three b k Unset (Set t v) (Set u w) = refl
-three b k (Set t v) Unset Unset = refl
-three b k (Set t v) Unset (Set u w) = refl
-three b k (Set t v) (Set u w) Unset = refl
-three b k (Set t v) (Set u w) (Set c d) = refl
+pub never_refused : (reading : ℕ) (own : Attributes) (v : Varies) (a : Attributes) → (synthesized reading own v a).refusal ≡ 0
+unfolding synthesized
+never_refused reading own v a = three _ _ _ _ _
 
 pub no_fourth : (reading : ℕ) (view : View) (r : Request) (o : Offer) → (synthesis_of_offer view reading r o).refusal ≡ 0
-unfolding synthesis_of_offer synthesized
-no_fourth reading view r o = three _ _ _ _ _
+unfolding synthesis_of_offer
+no_fourth reading seen r o = never_refused _ _ _ _
 
 -- ---- what the record of an answer is written from: the charmap index fits 32 bits, and no setting is a NaN
 
@@ -254,14 +248,14 @@ request_accepted (r ∷ rs) w d zero l =
     rw (w.0.ratio.accepted, style_accepted r.attributes.style w.0.style, w.0.weight.accepted) refl
 request_accepted (r ∷ rs) w d (suc k) l = request_accepted rs w.1 d k (omega arith)
 
-abbrev pub Writable : Answer → Type 0
+abbrev pub Writable : CallAnswer → Type 0
 Writable a = Small a.charmap_index × Numbers a.synthesis
 
 none_writable : (n : ℕ) → Writable (without_offer n)
 unfolding without_offer unvaried
 none_writable n = (omega arith, λ i l. absurd (omega arith))
 
-made_writable : (o : Offer) (made : Synthesis) (index : CharmapIndex) → Small index → Numbers made → Writable (with_synthesis o made index)
+made_writable : (o : Offer) (made : SynthesisAnswer) (index : CharmapIndex) → Small index → Numbers made → Writable (with_synthesis o made index)
 unfolding with_synthesis
 made_writable o made index h numbers = go (eqb made.refusal 29)
   where
@@ -270,13 +264,13 @@ made_writable o made index h numbers = go (eqb made.refusal 29)
     go false = (h, numbers)
 
 answered_writable : (reading : ℕ) (view : View) (r : Request) → ((i : ℕ) → Small (view.font i).charmap_index) → accepted_attributes r.attributes ≡ true
-    → (a : Offered) → Writable (answered reading view r a)
+    → (a : (Option Offer)) → Writable (answered reading view r a)
 unfolding answered face_of_offer synthesis_of_offer
-answered_writable reading view r small fine (At o) =
+answered_writable reading view r small fine (Some o) =
     let face = face_of_offer view o in
     made_writable o (synthesis_of_offer view reading r o) face.charmap_index (small (get_or (members_of view o.family) o.place 0))
     (setting_numbers reading face.attributes (varies_of face) r.attributes fine)
-answered_writable reading view r small fine Past = none_writable 1
+answered_writable reading view r small fine None = none_writable 1
 
 module _ (s : List ℕ) (bytes : Bytes s) (reading : ℕ) where
   font_small : (j : Job) → JobFits j → (i : ℕ) → Small ((view_of reading j).font i).charmap_index
@@ -304,7 +298,7 @@ module _ (s : List ℕ) (bytes : Bytes s) (reading : ℕ) where
           (offer_at (offers_of (view_of reading j) r) n)
       go false t = none_writable 28
 
-  pub answer_writable : (k n : ℕ) {a : Answer} → a ≡ answer_call s reading k n → Writable a
+  pub answer_writable : (k n : ℕ) {a : CallAnswer} → a ≡ answer_call s reading k n → Writable a
   unfolding answer_call job_answer
   answer_writable k n is = rw is (either (refuses_reading s reading))
     where
@@ -323,10 +317,10 @@ module _ (s : List ℕ) (reading k n : ℕ) (out : List ℕ) where
   unfolding offer_call unwritten
   wrong_length h = rw (ne_eqb (length out) record_size h) (record { result_is = refl; output_is = refl })
 
-  module _ (long : length out ≡ record_size) {a : Answer} (is : a ≡ answer_call s reading k n) where
+  module _ (long : length out ≡ record_size) {a : CallAnswer} (is : a ≡ answer_call s reading k n) where
     pub call_written : offer_call s reading k n out ≡ written a out
     unfolding offer_call
-    call_written = rw (eq-eqb (length out) record_size long) (ap (λ (x : Answer). written x out) (sym is))
+    call_written = rw (eq-eqb (length out) record_size long) (ap (λ (x : CallAnswer). written x out) (sym is))
 
     pub record_written : a.result ≡ 0 → {after : List ℕ} → after ≡ record_bytes a.offer a.synthesis a.charmap_index
         → Calls (offer_call s reading k n out) a.result after
@@ -352,6 +346,6 @@ module _ (s : List ℕ) (reading k n : ℕ) (out : List ℕ) where
       last true bytes m h = absurd (h refl)
       last false bytes m h = refl
 
-      go : (b : Bool) (a : Answer) → ((cond b (written a out) (unwritten 16 out)).result ≡ 0 → ⊥) → (cond b (written a out) (unwritten 16 out)).output ≡ out
+      go : (b : Bool) (a : CallAnswer) → ((cond b (written a out) (unwritten 16 out)).result ≡ 0 → ⊥) → (cond b (written a out) (unwritten 16 out)).output ≡ out
       go false a h = refl
       go true a h = last (eqb a.result 0) _ _ h

@@ -7,12 +7,12 @@ use native.Mathlib.Omega.{arith}
 use lib.ListN.{length}
 use lib.Dec.{leb, ltb}
 use borrow.Author.Tests.{lt-ltb, le-ltb, le-leb, lt-leb, leb-true, ltb-false}
-use Rattle.query.specs.declared.fields.At.{At}
+use Rattle.query.specs.Reader.{At}
 use Rattle.query.specs.Sizes.{most_bytes, most_faces, most_overrides, most_families, most_requests}
 use Rattle.query.specs.Reader.{overlong, bytes_left, number, Got, refused, got, ended}
 use Rattle.query.specs.Fields.{counted}
 use Rattle.query.specs.Entries.{read_face, read_override, read_family, read_request}
-use Rattle.query.specs.Job.{Job, at_end, read_sections, read_job, answer, check_job, job_in, job_of}
+use Rattle.query.specs.Job.{Job, Checked, at_end, read_sections, read_job, answer, check_job, job_in, job_of}
 use Rattle.query.proofs.Ends.{number_nonzero, then_got}
 
 pub bytes_left_lem : {A : Type 0} (a : A) (s : List ℕ) (p : ℕ) → p < length s → record { refusal = 27; at = p } ≡ ended (at_end a s p)
@@ -29,23 +29,31 @@ pub over : (s : List ℕ) → most_bytes < length s → record { refusal = 17; p
 unfolding check_job read_job answer number
 over s h = simp (lt-leb (length s) most_bytes h)
 
-pub answers_0 : (s : List ℕ) {a : At} → length s ≤ most_bytes → a ≡ ended (read_sections s 0) → a.refusal ≡ 0
-    → record { refusal = 0; position = 0 } ≡ check_job s
-unfolding check_job read_job answer ended
-answers_0 s {a} h = simp (le-leb (length s) most_bytes h) (go (read_sections s 0))
+-- of a job that is not too long it is what reading its sections gives
+pub short : (s : List ℕ) → length s ≤ most_bytes → answer (read_sections s 0) ≡ check_job s
+unfolding check_job read_job
+short s h = simp (le-leb (length s) most_bytes h)
+
+pub answers_none : (g : Got Job) {a : At} → a ≡ ended g → a.refusal ≡ 0 → record { refusal = 0; position = 0 } ≡ answer g
+unfolding answer ended
+answers_none g {a} = go g
   where
     go : (g : Got Job) → a ≡ ended g → a.refusal ≡ 0 → record { refusal = 0; position = 0 } ≡ answer g
     go (refused w p) e z = absurd (number_nonzero w (sym (ap (λ (y : At). y.refusal) e) ∙ z))
     go (got j p) e z = refl
 
-pub answers_refusal : (s : List ℕ) {a : At} → length s ≤ most_bytes → a ≡ ended (read_sections s 0) → (a.refusal ≡ 0 → ⊥)
-    → record { refusal = a.refusal; position = a.at } ≡ check_job s
-unfolding check_job read_job answer ended
-answers_refusal s {a} h = simp (le-leb (length s) most_bytes h) (go (read_sections s 0))
+pub answers_refusal : (g : Got Job) {a : At} → a ≡ ended g → (a.refusal ≡ 0 → ⊥) → record { refusal = a.refusal; position = a.at } ≡ answer g
+unfolding answer ended
+answers_refusal g {a} = go g
   where
     go : (g : Got Job) → a ≡ ended g → (a.refusal ≡ 0 → ⊥) → record { refusal = a.refusal; position = a.at } ≡ answer g
     go (refused w p) e z = ap (λ (y : At). record { refusal = y.refusal; position = y.at }) e
     go (got j p) e z = absurd (z (ap (λ (y : At). y.refusal) e))
+
+-- and 0 where the job was read
+pub answered : {g : Got Job} {c : Checked} {j : Job} {q : ℕ} → c ≡ answer g → g ≡ got j q → c.refusal ≡ 0
+unfolding answer
+answered e is = ap (λ (x : Checked). x.refusal) (e ∙ ap answer is)
 
 -- ---- an accepted job
 

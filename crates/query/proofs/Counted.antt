@@ -3,11 +3,10 @@ use Prim.Native.Nat.{ℕ, ◌-◌}
 use mathlib.Core.Path.{◌≡◌, sym, ap, ◌∙◌}
 use mathlib.Core.List.{List}
 use Rattle.font.specs.Tables.{u16_at}
-use Rattle.query.specs.declared.fields.At.{At}
-use Rattle.query.specs.declared.sections.Section.{Section}
+use Rattle.query.specs.Reader.{At}
 use Rattle.query.specs.Reader.{got, many, ended}
 use Rattle.query.specs.Fields.{count, counted}
-use Rattle.query.specs.Sections.{Entry, read_entry, limit_of}
+use Rattle.query.specs.Sections.{Section, Entry, read_entry, limit_of}
 use Rattle.query.specs.Positions.{NotedRun, NotedSection, KeptFrom}
 use Rattle.query.proofs.Ends.{stops, goes, then_got, got_there, not_got, many_length}
 use Rattle.query.proofs.Leaves.{count_read}

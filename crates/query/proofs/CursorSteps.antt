@@ -1,5 +1,6 @@
 -- Demand 3, over a job: each number of a request gets the offer of that number, and a fresh cursor that is stepped n times gives the offers of
 -- section 6's list in order, and then "past the list" each time.
+use Rattle.std.specs.Prelude.{None, Some}
 use Prim.Native.Nat.{ℕ, zero, suc, ◌+◌, ◌-◌, ◌^◌, ◌≤◌, ◌<◌}
 use mathlib.Core.Path.{◌≡◌, refl, sym, ◌∙◌, ap}
 use mathlib.Core.Bool.{Bool, true, false}
@@ -14,8 +15,7 @@ use Rattle.font.specs.Attributes.{default_attributes}
 use Rattle.font.specs.Slant.{is_reading}
 use Rattle.matching.specs.Matching.{request_of}
 use Rattle.query.specs.declared.answer.Offer.{Offer}
-use Rattle.query.specs.declared.offers.Offered.TheVariants as Offered'
-use Rattle.query.specs.declared.answer.Answer.{Answer}
+use Rattle.query.specs.Call.{CallAnswer}
 use Rattle.query.specs.declared.cursor.Cursor.{Cursor}
 use Rattle.query.specs.Sizes.{record_size}
 use Rattle.query.specs.Reader.{got}
@@ -35,7 +35,7 @@ use Rattle.query.proofs.AnswerCases.{a_request, no_fourth, every_at, call_writte
 -- ---- the steps of a cursor
 
 -- The answers are those over inputs that are not refused: the offer of the number, as `offer` says it, or `past`.
-module _ (s : List ℕ) (reading : ℕ) {O : Type 0} (offer : O → Answer) (past : Answer) (none : O) (list : List O) (request : ℕ)
+module _ (s : List ℕ) (reading : ℕ) {O : Type 0} (offer : O → CallAnswer) (past : CallAnswer) (none : O) (list : List O) (request : ℕ)
     (is : (k : ℕ) → answer_call s reading request k ≡ pick offer (λ j. past) list k)
     (offer-found : (o : O) → is_offer (offer o) ≡ true) (past-found : is_offer past ≡ false)
     (short : length list < 2 ^ 32) where
@@ -109,7 +109,7 @@ most_offers [] w = w
 most_offers (r ∷ rs) w = (w.0.most, most_offers rs w.1)
 
 module _ (s : List ℕ) (reading : ℕ) (known : is_reading reading ≡ true) (k : ℕ) (j : Job) (e : ℕ) (read : read_job s ≡ got j e) (there : k < length j.requests) where
-  with_its_synthesis : (o : Offer) → answered reading (view_of reading j) (request_of_job j k) (Offered'.At o) ≡ offered reading j k o
+  with_its_synthesis : (o : Offer) → answered reading (view_of reading j) (request_of_job j k) (Some o) ≡ offered reading j k o
   unfolding answered with_synthesis
   with_its_synthesis o = rw (no_fourth reading (view_of reading j) (request_of_job j k) o) refl
 
@@ -118,7 +118,7 @@ module _ (s : List ℕ) (reading : ℕ) (known : is_reading reading ≡ true) (k
   unfolding offer_at answered
   each_number n =
       a_request s reading known k n j e read there
-      ∙ pick_then (answered reading (view_of reading j) (request_of_job j k)) Offered'.At (λ i. Offered'.Past) (listed reading j k) n
+      ∙ pick_then (answered reading (view_of reading j) (request_of_job j k)) Some (λ i. None) (listed reading j k) n
       ∙ (λ i. pick (λ o. with_its_synthesis o i) (λ m. without_offer 1) (listed reading j k) n)
 
   -- and so does the offer call, in 40 bytes
@@ -126,7 +126,7 @@ module _ (s : List ℕ) (reading : ℕ) (known : is_reading reading ≡ true) (k
   unfolding written without_offer
   each_call n out long =
       call_written s reading k n out long (sym (each_number n))
-      ∙ pick_then (λ (a : Answer). written a out) (offered reading j k) (λ i. without_offer 1) (listed reading j k) n
+      ∙ pick_then (λ (a : CallAnswer). written a out) (offered reading j k) (λ i. without_offer 1) (listed reading j k) n
 
   short : Bytes s → length (listed reading j k) < 2 ^ 32
   unfolding offers_of request_of_job

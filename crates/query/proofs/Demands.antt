@@ -14,7 +14,7 @@ use Rattle.matching.specs.Order.{choice}
 use Rattle.matching.specs.Matching.{family_of, request_of}
 use Rattle.matching.proofs.Demand.{demand}
 use Rattle.matching.proofs.Matched.{bounded, weights_short}
-use Rattle.query.specs.declared.job.Checked.{Checked}
+use Rattle.query.specs.Job.{Checked}
 use Rattle.query.specs.Sizes.{record_size, most_bytes, most_places}
 use Rattle.query.specs.Reader.{Refusal, number, Got, refused, got}
 use Rattle.query.specs.Entries.{Family}

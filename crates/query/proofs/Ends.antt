@@ -6,8 +6,16 @@ use mathlib.Core.List.{List, [], ◌∷◌}
 use native.Mathlib.Omega.{arith}
 use lib.ListN.{length}
 use lib.Dec.{leb}
-use borrow.Author.Tests.{leb-true}
-use Rattle.query.specs.declared.fields.At.{At}
+use borrow.Author.Tests.{le-leb, lt-leb, leb-true}
+use Rattle.std.specs.Prelude.{Result, Ok, Err}
+use Rattle.std.specs.Result.{IsErrAnd}
+use Rattle.std.proofs.lemmas.Result.{err_from_is_err_and}
+use Rattle.font.specs.declared.refusal.Refusal as Code
+use Rattle.font.specs.declared.refusal.Refusal.TheVariants as Code'
+use Rattle.font.specs.Refusals as Refusals
+use Rattle.font.proofs.Refusals.{not_zero}
+use Rattle.query.specs.declared.job.Refused.{Refused}
+use Rattle.query.specs.Reader.{At, end_in}
 use Rattle.query.specs.Reader.{Refusal, overlong, past_end, over_limit, not_held, bad_directory, no_charmap, many_axes, no_face, unknown, bad_number, bytes_left, no_font, damaged_table, number, Got, refused, got, Reader, done, onward, ◌>>=◌, field, tested, many, ended}
 use Rattle.query.specs.Fields.{field_end}
 
@@ -42,15 +50,38 @@ tested_ends why ok n v s p = go (leb (p + n) (length s)) (ok (v s p)) refl
     go true false e = rw e
     go false b e = refl
 
-pub field_ends : {A : Type 0} (why : ℕ) (n : ℕ) (v : List ℕ → ℕ → A) (s : List ℕ) (p : ℕ)
-    → field_end s p n true why ≡ ended (field n v s p)
-unfolding field_end ended field number
-field_ends why n v s p = go (leb (p + n) (length s))
+-- a field that nothing refuses but the end
+pub field_fits : {A : Type 0} (n : ℕ) (v : List ℕ → ℕ → A) (s : List ℕ) (p q : ℕ) → q ≡ p + n → q ≤ length s → end_in (Ok q) ≡ ended (field n v s p)
+unfolding field ended end_in
+field_fits n v s p q e l = rw e (simp (le-leb (p + n) (length s) (omega arith)))
+
+pub field_lacks : {A : Type 0} (n : ℕ) (v : List ℕ → ℕ → A) (s : List ℕ) (p : ℕ) → length s < p + n
+    → end_in (Err (record { refusal = Code'.PastEnd; position = p })) ≡ ended (field n v s p)
+unfolding field ended end_in number Refusals.number
+field_lacks n v s p l = simp (lt-leb (p + n) (length s) l)
+
+-- and one that is tested besides, from how it ends untested
+pub lacks_field : {A : Type 0} (n : ℕ) (v : List ℕ → ℕ → A) (s : List ℕ) (p : ℕ) (ok : Bool) (w : ℕ) (result : Result ℕ Refused) (why : Refused)
+    → IsErrAnd result (λ y. y ≡ why) → end_in (Err why) ≡ ended (field n v s p) → end_in result ≡ field_end s p n ok w
+unfolding field ended end_in field_end number
+lacks_field n v s p ok w result why is e = let h = err_from_is_err_and result is in rw (h.1, h.2) (go (leb (p + n) (length s)) e)
   where
-    go : (a : Bool) → cond a (record { refusal = 0; at = p + n }) (record { refusal = 18; at = p })
-        ≡ ended (cond a (got (v s p) (p + n)) (refused past_end p))
-    go true = refl
-    go false = refl
+    go : (b : Bool) → end_in (Err why) ≡ ended (cond b (got (v s p) (p + n)) (refused past_end p))
+        → end_in (Err why) ≡ cond b (cond ok (record { refusal = 0; at = p + n }) (record { refusal = w; at = p })) (record { refusal = 18; at = p })
+    go true e = absurd (not_zero why.refusal (ap (λ (x : At). x.refusal) e))
+    go false e = e
+
+pub has_field : {A : Type 0} (n : ℕ) (v : List ℕ → ℕ → A) (s : List ℕ) (p q : ℕ) (ok : Bool) (w : Code.Refusal) → end_in (Ok q) ≡ ended (field n v s p)
+    → cond ok (end_in (Ok q)) (end_in (Err (record { refusal = w; position = p }))) ≡ field_end s p n ok (Refusals.number w)
+unfolding field ended end_in field_end number
+has_field n v s p q ok w e = go (leb (p + n) (length s)) ok e
+  where
+    go : (b c : Bool) → end_in (Ok q) ≡ ended (cond b (got (v s p) (p + n)) (refused past_end p))
+        → cond c (end_in (Ok q)) (end_in (Err (record { refusal = w; position = p })))
+        ≡ cond b (cond c (record { refusal = 0; at = p + n }) (record { refusal = Refusals.number w; at = p })) (record { refusal = 18; at = p })
+    go true true e = e
+    go true false e = refl
+    go false c e = absurd (let h : ◌≡◌ {A = ℕ} 0 18 = ap (λ (x : At). x.refusal) e in omega arith)
 
 -- what is known of a field that was read
 pub record Read {A : Type 0} (n : ℕ) (v : List ℕ → ℕ → A) (ok : A → Bool) (s : List ℕ) (p : ℕ) (a : A) (q : ℕ) : Type 0 where
@@ -109,6 +140,20 @@ goes {A} {B} r k s p {a} {b} = go (r s p)
         let same : a.at ≡ x = ap (λ (y : At). y.at) e in
         rw same at (f v (rw same refl))
 
+-- the same of a code's answer: the exit of its `?`
+pub refuses : {A B : Type 0} (r : Reader A) (k : A → Reader B) (s : List ℕ) (p : ℕ) (result : Result ℕ Refused) (why : Refused)
+    → IsErrAnd result (λ y. y ≡ why) → end_in (Err why) ≡ ended (r s p) → end_in result ≡ ended ((r >>= k) s p)
+unfolding end_in
+refuses r k s p result why is e =
+    let h = err_from_is_err_and result is in
+    rw (h.1, h.2) (stops r k s p e (not_zero why.refusal))
+
+-- and what follows it
+pub goes_on : {A B : Type 0} (r : Reader A) (k : A → Reader B) (s : List ℕ) (p : ℕ) {next : ℕ} {b : At}
+    → end_in (Ok next) ≡ ended (r s p) → ((v : A) → r s p ≡ got v next → b ≡ ended (k v s next)) → b ≡ ended ((r >>= k) s p)
+unfolding end_in
+goes_on r k s p e f = goes r k s p e refl f
+
 -- what is made of the values changes no end
 pub ends : {A B : Type 0} (r : Reader A) (f : A → B) (s : List ℕ) (p : ℕ) {a : At}
     → a ≡ ended (r s p) → a ≡ ended ((r >>= (λ v. done (f v))) s p)
@@ -118,10 +163,6 @@ ends {A} {B} r f s p {a} = go (r s p)
     go : (g : Got A) → a ≡ ended g → a ≡ ended (onward g (λ v q. done (f v) s q))
     go (refused w x) e = e
     go (got v x) e = e
-
--- of readers by cases, that of the case that was met
-pub met : {K : Type 0} {A : K → Type 0} (r : (k : K) → Reader (A k)) (s : List ℕ) (p : ℕ) {k m : K} → k ≡ m → ended (r m s p) ≡ ended (r k s p)
-met {K} r s p e = ap (λ (k : K). ended (r k s p)) (sym e)
 
 -- ---- entries of one kind
 

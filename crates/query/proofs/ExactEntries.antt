@@ -1,4 +1,5 @@
 -- The entries of a job are read exactly.
+use Rattle.std.specs.Prelude.{Option, None, Some}
 use Prim.Native.Nat.{ℕ, zero, suc, ◌+◌, ◌≤◌, ◌<◌}
 use mathlib.Core.Path.{◌≡◌, refl, sym, ap, ◌∙◌}
 use mathlib.Core.Bool.{Bool, true, false, cond}
@@ -12,13 +13,9 @@ use Rattle.font.specs.declared.attributes.Angle.TheVariants.{Unstated, Degrees}
 use Rattle.font.specs.declared.attributes.FontStyle.{FontStyle}
 use Rattle.font.specs.declared.attributes.FontStyle.TheVariants.{Normal, Italic, Oblique}
 use Rattle.font.specs.declared.attributes.Attributes.{Attributes}
-use Rattle.font.specs.declared.overrides.WidthOverride.{WidthOverride}
-use Rattle.font.specs.declared.overrides.StyleOverride.{StyleOverride}
-use Rattle.font.specs.declared.overrides.WeightOverride.{WeightOverride}
+use Rattle.font.specs.declared.attributes.FontWidth.{FontWidth}
+use Rattle.font.specs.declared.attributes.FontWeight.{FontWeight}
 use Rattle.font.specs.declared.overrides.FontInfoOverride.{FontInfoOverride}
-use Rattle.font.specs.declared.overrides.WidthOverride.TheVariants as Width
-use Rattle.font.specs.declared.overrides.StyleOverride.TheVariants as Style
-use Rattle.font.specs.declared.overrides.WeightOverride.TheVariants as Weight
 use Rattle.font.specs.Attributes.{attributes_of}
 use Rattle.font.specs.StatedAttributes.{bit}
 use Rattle.query.specs.Sizes.{most_places}
@@ -180,49 +177,49 @@ exact_style = record {
 
 -- ---- overrides
 
-width_made : (w : WidthOverride) → gives_width w ≡ true → WidthFits w → (x : Float) × (Width.Set (record { ratio = x }) ≡ w) × IsRatio x
+width_made : (w : Option FontWidth) → gives_width w ≡ true → WidthFits w → (x : Float) × (Some (record { ratio = x }) ≡ w) × IsRatio x
 unfolding gives_width WidthFits
-width_made Width.Keep h f = false_is_not_true h
-width_made (Width.Set w) h f = (w.ratio, refl, f)
+width_made None h f = false_is_not_true h
+width_made (Some w) h f = (w.ratio, refl, f)
 
-width_kept : (w : WidthOverride) → gives_width w ≡ false → Width.Keep ≡ w
+width_kept : (w : Option FontWidth) → gives_width w ≡ false → None ≡ w
 unfolding gives_width
-width_kept Width.Keep h = refl
-width_kept (Width.Set w) h = false_is_not_true (sym h)
+width_kept None h = refl
+width_kept (Some w) h = false_is_not_true (sym h)
 
-exact_width : (b : Bool) → Exact (or_spare b Width.Keep read_width) layout_width (λ w. (gives_width w ≡ b) × WidthFits w)
+exact_width : (b : Bool) → Exact (or_spare b None read_width) layout_width (λ w. (gives_width w ≡ b) × WidthFits w)
 unfolding read_width layout_width gives_width WidthFits
 exact_width b =
-    exact_or_spare ratio bytes_of IsRatio exact_ratio (λ x. Width.Set (record { ratio = x })) Width.Keep gives_width layout_width WidthFits refl refl tt (λ x. refl) (λ x. refl) (λ x w. w) width_made width_kept b
+    exact_or_spare ratio bytes_of IsRatio exact_ratio (λ x. Some (record { ratio = x })) None gives_width layout_width WidthFits refl refl tt (λ x. refl) (λ x. refl) (λ x w. w) width_made width_kept b
 
-weight_made : (w : WeightOverride) → gives_weight w ≡ true → WeightFits w → (x : Float) × (Weight.Set (record { value = x }) ≡ w) × IsValue x
+weight_made : (w : Option FontWeight) → gives_weight w ≡ true → WeightFits w → (x : Float) × (Some (record { value = x }) ≡ w) × IsValue x
 unfolding gives_weight WeightFits
-weight_made Weight.Keep h f = false_is_not_true h
-weight_made (Weight.Set w) h f = (w.value, refl, f)
+weight_made None h f = false_is_not_true h
+weight_made (Some w) h f = (w.value, refl, f)
 
-weight_kept : (w : WeightOverride) → gives_weight w ≡ false → Weight.Keep ≡ w
+weight_kept : (w : Option FontWeight) → gives_weight w ≡ false → None ≡ w
 unfolding gives_weight
-weight_kept Weight.Keep h = refl
-weight_kept (Weight.Set w) h = false_is_not_true (sym h)
+weight_kept None h = refl
+weight_kept (Some w) h = false_is_not_true (sym h)
 
-exact_weight : (b : Bool) → Exact (or_spare b Weight.Keep read_weight) layout_weight (λ w. (gives_weight w ≡ b) × WeightFits w)
+exact_weight : (b : Bool) → Exact (or_spare b None read_weight) layout_weight (λ w. (gives_weight w ≡ b) × WeightFits w)
 unfolding read_weight layout_weight gives_weight WeightFits
 exact_weight b =
-    exact_or_spare value bytes_of IsValue exact_value (λ x. Weight.Set (record { value = x })) Weight.Keep gives_weight layout_weight WeightFits refl refl tt (λ x. refl) (λ x. refl) (λ x w. w) weight_made weight_kept b
+    exact_or_spare value bytes_of IsValue exact_value (λ x. Some (record { value = x })) None gives_weight layout_weight WeightFits refl refl tt (λ x. refl) (λ x. refl) (λ x w. w) weight_made weight_kept b
 
-style_sound : (b : Bool) (s : List ℕ) → Bytes s → (p : ℕ) (t : StyleOverride) (q : ℕ) → style_or_spare b s p ≡ got t q
+style_sound : (b : Bool) (s : List ℕ) → Bytes s → (p : ℕ) (t : Option FontStyle) (q : ℕ) → style_or_spare b s p ≡ got t q
     → Stood s p (layout_style_given t) q ((gives_style t ≡ b) × StyleGivenFits t)
 unfolding style_or_spare layout_style_given gives_style StyleGivenFits
 style_sound true s B p a q h =
     let t = then_got read_style _ s p a q h in
-    let d = done_got (Style.Set t.0) a s t.1 q t.3 in
+    let d = done_got (Some t.0) a s t.1 q t.3 in
     let f = exact_style.sound s B p t.0 t.1 t.2 in
     stood_as layout_style_given (λ y. (gives_style y ≡ true) × StyleGivenFits y) d.0 d.1
     (record { stands = f.stands; within = (refl, f.within) })
 style_sound false s B p a q h =
     let t = then_got spare_byte _ s p a q h in
     let u = then_got spare_word _ s t.1 a q t.3 in
-    let d = done_got Style.Keep a s u.1 q u.3 in
+    let d = done_got None a s u.1 q u.3 in
     let f = exact_spare_byte.sound s B p t.0 t.1 t.2 in
     let g = exact_spare_word.sound s B t.1 u.0 u.1 u.2 in
     let fs : Stands s p (bytes8 0) t.1 = rw (← f.within) f.stands in
@@ -230,17 +227,17 @@ style_sound false s B p a q h =
     stood_as layout_style_given (λ y. (gives_style y ≡ false) × StyleGivenFits y) d.0 d.1
     (record { stands = join fs gs; within = (refl, tt) })
 
-style_complete : (b : Bool) (t : StyleOverride) (s : List ℕ) (p q : ℕ) → (gives_style t ≡ b) × StyleGivenFits t → Stands s p (layout_style_given t) q
+style_complete : (b : Bool) (t : Option FontStyle) (s : List ℕ) (p q : ℕ) → (gives_style t ≡ b) × StyleGivenFits t → Stands s p (layout_style_given t) q
     → style_or_spare b s p ≡ got t q
 unfolding style_or_spare layout_style_given gives_style StyleGivenFits
-style_complete true Style.Keep s p q w h = false_is_not_true w.0
-style_complete true (Style.Set t) s p q w h =
-    then_is read_style _ s p t q (exact_style.complete s p t q w.1 h) (done_is (Style.Set t) s q)
-style_complete false (Style.Set t) s p q w h = false_is_not_true (sym w.0)
-style_complete false Style.Keep s p q w h =
+style_complete true None s p q w h = false_is_not_true w.0
+style_complete true (Some t) s p q w h =
+    then_is read_style _ s p t q (exact_style.complete s p t q w.1 h) (done_is (Some t) s q)
+style_complete false (Some t) s p q w h = false_is_not_true (sym w.0)
+style_complete false None s p q w h =
     let d = split (bytes8 0) (bytes32 0) h in
     then_is spare_byte _ s p 0 _ (exact_spare_byte.complete s p 0 _ refl d.first)
-    (then_is spare_word _ s _ 0 q (exact_spare_word.complete s _ 0 q refl d.second) (done_is Style.Keep s q))
+    (then_is spare_word _ s _ 0 q (exact_spare_word.complete s _ 0 q refl d.second) (done_is None s q))
 
 exact_style_given : (b : Bool) → Exact (style_or_spare b) layout_style_given (λ t. (gives_style t ≡ b) × StyleGivenFits t)
 exact_style_given b = record { sound = style_sound b; complete = λ s p t q w h. style_complete b t s p q w h }
@@ -254,9 +251,9 @@ record GivenBy (m : ℕ) (o : FontInfoOverride) : Type 0 where
 exact_given : (m : ℕ) → Exact (read_given m) layout_given (GivenBy m)
 unfolding read_given layout_given
 exact_given m = record {
-  sound = λ s B p a q h. let t = then_got (or_spare (bit 0 m) Width.Keep read_width) _ s p a q h in
+  sound = λ s B p a q h. let t = then_got (or_spare (bit 0 m) None read_width) _ s p a q h in
       let u = then_got (style_or_spare (bit 1 m)) _ s t.1 a q t.3 in
-      let v = then_got (or_spare (bit 2 m) Weight.Keep read_weight) _ s u.1 a q u.3 in
+      let v = then_got (or_spare (bit 2 m) None read_weight) _ s u.1 a q u.3 in
       let d = done_got (record { width = t.0; style = u.0; weight = v.0 }) a s v.1 q v.3 in
       let f = (exact_width (bit 0 m)).sound s B p t.0 t.1 t.2 in
       let g = (exact_style_given (bit 1 m)).sound s B t.1 u.0 u.1 u.2 in
@@ -268,9 +265,9 @@ exact_given m = record {
       });
   complete = λ s p a q w h. let d = split (layout_width a.width) _ h in
       let c = split (layout_style_given a.style) (layout_weight a.weight) d.second in
-      then_is (or_spare (bit 0 m) Width.Keep read_width) _ s p a.width _ ((exact_width (bit 0 m)).complete s p a.width _ w.width d.first)
+      then_is (or_spare (bit 0 m) None read_width) _ s p a.width _ ((exact_width (bit 0 m)).complete s p a.width _ w.width d.first)
       (then_is (style_or_spare (bit 1 m)) _ s _ a.style _ ((exact_style_given (bit 1 m)).complete s _ a.style _ w.style c.first)
-      (then_is (or_spare (bit 2 m) Weight.Keep read_weight) _ s _ a.weight q ((exact_weight (bit 2 m)).complete s _ a.weight q w.weight c.second)
+      (then_is (or_spare (bit 2 m) None read_weight) _ s _ a.weight q ((exact_weight (bit 2 m)).complete s _ a.weight q w.weight c.second)
       (done_is a s q)));
 }
 

@@ -1,10 +1,10 @@
 -- What the reader of a face or of an override reads is what lies at its position; and so of the numbers and styles in them.
-use Prim.Native.Nat.{ℕ, suc, ◌+◌, ◌*◌, ◌-◌, ◌≤◌, ◌<◌}
+use Rattle.std.specs.Prelude.{None, Some}
+use Prim.Native.Nat.{ℕ, suc, ◌+◌, ◌*◌, ◌≤◌, ◌<◌}
 use mathlib.Core.Path.{◌≡◌, refl, ap, ◌∙◌}
 use mathlib.Core.Bool.{Bool, true, false, cond}
 use mathlib.Core.List.{List, ◌∷◌}
 use native.Mathlib.Omega.{arith}
-use native.Mathlib.Nat.{add-sub_cancel_left}
 use lib.Dec.{leb, ltb, eqb}
 use lib.Ieee.{Float, binary32, of_bits}
 use lib.Ieee.Scale.{finite}
@@ -12,16 +12,13 @@ use lib.ListN.{length, get_or, take, drop}
 use borrow.Author.Tests.{leb-true, ltb-true, eqb-true}
 use Rattle.font.specs.declared.attributes.Angle.TheVariants.{Unstated, Degrees}
 use Rattle.font.specs.declared.attributes.FontStyle.{FontStyle}
-use Rattle.font.specs.declared.overrides.WidthOverride.TheVariants as Width
-use Rattle.font.specs.declared.overrides.StyleOverride.TheVariants as Style
-use Rattle.font.specs.declared.overrides.WeightOverride.TheVariants as Weight
 use Rattle.font.specs.Tables.{u16_at, u32_at}
 use Rattle.font.specs.Collection.{is_collection, header_fits, font_count}
 use Rattle.font.specs.StatedAttributes.{bit}
 use Rattle.font.specs.Font.{font_refusal}
 use Rattle.font.proofs.FiniteBits.{accepted_finite}
 use Rattle.query.specs.declared.fields.Behind.{Behind}
-use Rattle.query.specs.declared.sections.Section.TheVariants.{Faces}
+use Rattle.query.specs.Sections.{Faces}
 use Rattle.query.specs.Sizes.{face_head, font_number_size, override_head, pair_size}
 use Rattle.query.specs.Reader.{Refusal, past_end, bad_directory, no_font, Reader, refused, got, done, field, tested, many, ◌>>=◌}
 use Rattle.query.specs.Fields.{byte, half, word, ratio, value, byte_counted, held_byte, face_number, mask, kind, spare_byte, spare_word, or_spare, NumberedFont, font_row, font_bytes, sized_file, number_below, refused_at, font_number, font_taken, numbered, font_file}
@@ -70,7 +67,7 @@ style_at_lem s p x q e =
     let stated = eqb (get_or s p 0) 3 in
     same_got (then_at (or_spare stated Unstated read_angle) _ (p + 5) (or_spare_at Unstated value (λ v. Degrees v) s (p + 1) (value_at s (p + 1)) stated) (omega arith) k)
 
-style_given_at : (b : Bool) (s : List ℕ) (p : ℕ) → ReadsAt (style_or_spare b) s p (cond b (Style.Set (style_at s p)) Style.Keep) (p + 5)
+style_given_at : (b : Bool) (s : List ℕ) (p : ℕ) → ReadsAt (style_or_spare b) s p (cond b (Some (style_at s p)) None) (p + 5)
 unfolding style_or_spare done
 style_given_at true s p w q e = same_got (then_at read_style _ (p + 5) (style_at_lem s p) refl e)
 style_given_at false s p w q e =
@@ -110,18 +107,9 @@ bytes_at_lem place n s p x q = go (leb (p + n) (length s))
     go true e = same_got e
     go false e = absurd (let z : ◌≡◌ {A = ℕ} 0 1 = cc in omega arith)
 
--- the file of a face as that part of the job, up to where it ends
-pub file_part : (s : List ℕ) (p end : ℕ) → end ≡ file_end s p → take (end - (p + face_head)) (drop (p + face_head) s) ≡ file_at s p
-unfolding file_at
-file_part s p end e = rw (e, add-sub_cancel_left (p + face_head) (u32_at s (p + 1)))
-
--- the number behind it
+-- the number behind a face's file
 pub number_there : (s file : List ℕ) (p : ℕ) {end : ℕ} {b : Behind} → b ≡ behind_file s end file → end ≡ file_end s p → b.number ≡ number_behind s (file_end s p) file
 number_there s file p e l = ap (λ (b : Behind). b.number) e ∙ ap (λ (q : ℕ). number_behind s q file) l
-
--- where the face ends
-pub part_end : (s : List ℕ) (p end : ℕ) → end ≡ file_end s p → behind_number (take (end - (p + face_head)) (drop (p + face_head) s)) end ≡ face_end s p
-part_end s p end e = ap (λ (f : List ℕ). behind_number f end) (file_part s p end e) ∙ ap (behind_number (file_at s p)) e
 
 -- a font's length and bytes
 pub sized_at : (s : List ℕ) (p next : ℕ) → p + 4 ≡ next → ReadsAt sized_file s p (take (u32_at s p) (drop next s)) (next + u32_at s p)
@@ -209,9 +197,9 @@ given_at_lem : (s : List ℕ) (p : ℕ) → ReadsAt (read_given (get_or s (p + 2
 unfolding read_given read_width read_weight done given_at
 given_at_lem s p g q e =
     let m = get_or s (p + 2) 0 in
-    let width = then_at (or_spare (bit 0 m) Width.Keep read_width) _ (p + 7) (or_spare_at Width.Keep ratio (λ x. Width.Set (record { ratio = x })) s (p + 3) (ratio_at s (p + 3)) (bit 0 m)) (omega arith) e in
+    let width = then_at (or_spare (bit 0 m) None read_width) _ (p + 7) (or_spare_at None ratio (λ x. Some (record { ratio = x })) s (p + 3) (ratio_at s (p + 3)) (bit 0 m)) (omega arith) e in
     let style = then_at (style_or_spare (bit 1 m)) _ (p + 12) (style_given_at (bit 1 m) s (p + 7)) (omega arith) width in
-    same_got (then_at (or_spare (bit 2 m) Weight.Keep read_weight) _ (p + 16) (or_spare_at Weight.Keep value (λ x. Weight.Set (record { value = x })) s (p + 12) (value_at s (p + 12)) (bit 2 m)) (omega arith) style)
+    same_got (then_at (or_spare (bit 2 m) None read_weight) _ (p + 16) (or_spare_at None value (λ x. Some (record { value = x })) s (p + 12) (value_at s (p + 12)) (bit 2 m)) (omega arith) style)
 
 pair_at_lem : (s : List ℕ) (p : ℕ) → ReadsAt read_pair s p (pair_at s p) (p + pair_size)
 unfolding read_pair done pair_at

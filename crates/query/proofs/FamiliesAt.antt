@@ -7,7 +7,7 @@ use lib.ListN.{length, get_or}
 use borrow.Author.Tests.{leb-true, lt-leb, ltb-true}
 use Rattle.font.specs.Tables.{u16_at}
 use Rattle.font.proofs.Tabulated.{element}
-use Rattle.query.specs.declared.sections.Section.TheVariants.{Requests}
+use Rattle.query.specs.Sections.{Requests}
 use Rattle.query.specs.Sizes.{most_bytes, most_places, request_head}
 use Rattle.query.specs.Reader.{Reader, got, done, many}
 use Rattle.query.specs.Fields.{byte, half, ratio, value, count, counted, byte_counted, face_number}

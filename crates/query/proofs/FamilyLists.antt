@@ -1,4 +1,5 @@
 -- A family's offers: the held equal faces and what the default adds, how many they are, and what the list depends on.
+use Rattle.std.specs.Prelude.{Result, Ok, Err}
 use Prim.Native.Nat.{ℕ, zero, suc, ◌+◌, ◌≤◌, ◌<◌}
 use mathlib.Core.Path.{◌≡◌, refl, sym, ◌∙◌, ap}
 use mathlib.Core.Bool.{Bool, true, false, not, ◌&&◌, cond}
@@ -11,11 +12,10 @@ use Rattle.matching.specs.declared.order.Request.{Request}
 use Rattle.matching.specs.Below.{places_below}
 use Rattle.matching.specs.Order.{Family, same_face, choice, equal_places}
 use Rattle.matching.specs.Matching.{default_place}
+use Rattle.matching.specs.declared.rows.Row.{Row}
 use Rattle.matching.specs.Rows.{family_of_rows}
 use Rattle.matching.proofs.Below.{both}
 use Rattle.matching.proofs.Alike.{places_agree, choice_same, equal_same, default_same}
-use Rattle.query.specs.declared.families.FamilyOffer.{FamilyOffer}
-use Rattle.query.specs.declared.families.FamilyOffer.TheVariants.{Place, Left}
 use Rattle.query.specs.Offers.{pick, keep, among, held_equal, offers_default, family_offers}
 use Rattle.query.specs.CallTables.{held_row}
 use Rattle.query.specs.Listed.{default_offered, default_offers}
@@ -62,39 +62,39 @@ module _ (family : Family) (held : ℕ → Bool) (request : Request) where
   held_first = refl
 
 -- by the family's rows: what is behind the held faces that equal the chosen one
-pub default_offers_lem : (rows : List (List ℕ)) (members : List ℕ) (count : ℕ) (request : Request)
+pub default_offers_lem : (rows : List Row) (members : List ℕ) (count : ℕ) (request : Request)
     → cond (offers_default (family_of_rows rows members count) (held_row rows members) request) (default_place (family_of_rows rows members count) ∷ []) []
     ≡ default_offers rows members count (choice (family_of_rows rows members count) request)
 unfolding default_offered default_offers
 default_offers_lem rows members count request =
     ap (λ (b : Bool). cond b (default_place (family_of_rows rows members count) ∷ []) []) (default_is (family_of_rows rows members count) (held_row rows members) request)
 
-pub offered_in : (rows : List (List ℕ)) (members : List ℕ) (count chosen d : ℕ) → default_offered rows members count chosen d ≡ true → d < count
+pub offered_in : (rows : List Row) (members : List ℕ) (count chosen d : ℕ) → default_offered rows members count chosen d ≡ true → d < count
 unfolding default_offered
 offered_in rows members count chosen d e = ltb-true d count (both (ltb d count) _ e).0
 
 -- what follows the answer of the held equal faces, which are all the offers but these
-abbrev pub after_equal : List ℕ → FamilyOffer → FamilyOffer
-after_equal rest (Place p) = Place p
-after_equal rest (Left k) = pick Place Left rest k
+abbrev pub after_equal : List ℕ → (Result ℕ ℕ) → (Result ℕ ℕ)
+after_equal rest (Ok p) = Ok p
+after_equal rest (Err k) = pick Ok Err rest k
 
-pub then_rest : (xs rest : List ℕ) (n : ℕ) → after_equal rest (pick Place Left xs n) ≡ pick Place Left (xs ++ rest) n
-then_rest xs rest n = pick_then (after_equal rest) Place Left xs n ∙ sym (pick_append Place Left xs rest n)
+pub then_rest : (xs rest : List ℕ) (n : ℕ) → after_equal rest (pick Ok Err xs n) ≡ pick Ok Err (xs ++ rest) n
+then_rest xs rest n = pick_then (after_equal rest) Ok Err xs n ∙ sym (pick_append Ok Err xs rest n)
 
 -- how far past the offers a number lies tells how many there are
-abbrev pub Passed : List ℕ → ℕ → FamilyOffer → Type 0
-Passed xs n (Place p) = Unit {0}
-Passed xs n (Left k) = n ≡ length xs + k
+abbrev pub Passed : List ℕ → ℕ → (Result ℕ ℕ) → Type 0
+Passed xs n (Ok p) = Unit {0}
+Passed xs n (Err k) = n ≡ length xs + k
 
-pub passed_by : (xs : List ℕ) (n : ℕ) → Passed xs n (pick Place Left xs n)
+pub passed_by : (xs : List ℕ) (n : ℕ) → Passed xs n (pick Ok Err xs n)
 unfolding pick
 passed_by [] n = omega arith
 passed_by (x ∷ xs) zero = tt
-passed_by (x ∷ xs) (suc n) = further xs n (pick Place Left xs n) (passed_by xs n)
+passed_by (x ∷ xs) (suc n) = further xs n (pick Ok Err xs n) (passed_by xs n)
   where
-    further : (ys : List ℕ) (m : ℕ) (o : FamilyOffer) → Passed ys m o → Passed (x ∷ ys) (suc m) o
-    further ys m (Place p) h = tt
-    further ys m (Left k) h = omega arith
+    further : (ys : List ℕ) (m : ℕ) (o : (Result ℕ ℕ)) → Passed ys m o → Passed (x ∷ ys) (suc m) o
+    further ys m (Ok p) h = tt
+    further ys m (Err k) h = omega arith
 
 -- ---- how many there are
 

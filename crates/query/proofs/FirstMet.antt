@@ -9,12 +9,12 @@ use native.Mathlib.Omega.{arith}
 use lib.ListN.{length, take, drop, length-append, length-take, take-append-drop}
 use lib.Dec.{leb, ltb, eqb}
 use borrow.Author.Tests.{le-leb, le-ltb, lt-ltb, leb-true, ltb-true, ltb-false, eqb-true, eqb-false}
-use Rattle.query.specs.declared.fields.At.{At}
+use Rattle.query.specs.Reader.{At}
 use Rattle.query.specs.Sizes.{most_bytes}
 use Rattle.query.specs.Reader.{Refusal, overlong, past_end, bytes_left, number, Got, refused, got, Reader, onward, ◌>>=◌, field, tested, ended}
 use Rattle.query.specs.Fields.{half, count, counted}
 use Rattle.query.specs.Job.{Job, at_end, read_sections, read_job, answer, check_job, job_of}
-use Rattle.query.specs.declared.job.Checked.{Checked}
+use Rattle.query.specs.Job.{Checked}
 use Rattle.query.specs.Demands.{cut_before, Until, lacking, met, whole}
 use Rattle.query.proofs.Readers.{place, Goes, Kept, Back, Lacked, Stays, stays_then, Reads, never}
 use Rattle.query.proofs.EntryReaders.{reads_counted, reads_face, reads_override, reads_family, reads_request}

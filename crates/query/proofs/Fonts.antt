@@ -6,14 +6,19 @@ use mathlib.Core.Bool.{Bool, true, false, cond}
 use mathlib.Core.List.{List}
 use native.Mathlib.Omega.{arith}
 use native.Mathlib.Nat.{add-sub_cancel_left}
-use lib.Dec.{ltb, eqb}
+use lib.Dec.{leb, ltb, eqb}
 use lib.ListN.{length, take, drop}
 use borrow.Author.Tests.{le-leb, lt-leb, eq-eqb, ne_eqb}
 use Rattle.font.specs.Tables.{u16_at, u32_at}
 use Rattle.font.specs.Collection.{is_collection, header_fits, font_count, font_start}
 use Rattle.font.specs.Font.{refusal_at, font_refusal}
 use Rattle.font.proofs.FaceOf.{OneOf, accepted, directory, charmap, axes, number, damage, refusal_one_of, below_not_30}
-use Rattle.query.specs.declared.fields.At.{At}
+use Rattle.std.specs.Prelude.{Result, Ok, Err}
+use Rattle.std.specs.Result.{IsErrAnd, MatchResult}
+use Rattle.std.proofs.lemmas.Result.{err_from_is_err_and}
+use Rattle.font.proofs.Refusals.{not_zero}
+use Rattle.query.specs.declared.job.Refused.{Refused}
+use Rattle.query.specs.Reader.{At, end_in}
 use Rattle.query.specs.Reader as Reader
 use Rattle.query.specs.Reader.{bad_directory, no_charmap, many_axes, no_font, damaged_table, refused, got, done, onward, ◌>>=◌, field, ended}
 use Rattle.query.specs.Fields.{half, word, NumberedFont, field_end, font_row, font_bytes, sized_file, number_below, refused_at, font_number, font_taken, numbered, font_file}
@@ -34,6 +39,25 @@ past_font s p n e h l = simp (le-leb (p + 4) (length s) h, sym e, lt-leb (p + 4 
 pub sized : (s : List ℕ) (p n : ℕ) → n ≡ u32_at s p → p + 4 + n ≤ length s → record { refusal = 0; at = p + 4 + n } ≡ ended (sized_file s p)
 unfolding sized_file font_bytes ◌>>=◌ onward word field ended Reader.number
 sized s p n e l = simp (le-leb (p + 4) (length s) (omega arith), sym e, le-leb (p + 4 + n) (length s) l)
+
+-- bytes that are refused at another place
+pub placed_bytes : {Q : Refused → Refused → Type 0} (place n : ℕ) (s : List ℕ) (p : ℕ) (x y : Result ℕ Refused) → end_in x ≡ ended (field n u32_at s p)
+    → MatchResult x (λ q. y ≡ Ok q) (λ why. IsErrAnd y (Q why))
+    → ((why moved : Refused) → Q why moved → moved ≡ record { refusal = why.refusal; position = place })
+    → end_in y ≡ ended (font_bytes place n s p)
+unfolding font_bytes field ended end_in Reader.number
+placed_bytes place n s p (Ok q) y e is told = rw is (go (leb (p + n) (length s)) e)
+  where
+    go : (b : Bool) → end_in (Ok q) ≡ ended (cond b (got (u32_at s p) (p + n)) (refused Reader.past_end p))
+        → end_in (Ok q) ≡ ended (cond b (got (take n (drop p s)) (p + n)) (refused Reader.past_end place))
+    go true e = e
+    go false e = absurd (let h : ◌≡◌ {A = ℕ} 0 18 = ap (λ (x : At). x.refusal) e in omega arith)
+placed_bytes place n s p (Err why) y e is told = let h = err_from_is_err_and y is in rw (h.1, told why h.0 h.2) (go (leb (p + n) (length s)) e)
+  where
+    go : (b : Bool) → end_in (Err why) ≡ ended (cond b (got (u32_at s p) (p + n)) (refused Reader.past_end p))
+        → end_in (Err (record { refusal = why.refusal; position = place })) ≡ ended (cond b (got (take n (drop p s)) (p + n)) (refused Reader.past_end place))
+    go true e = absurd (not_zero why.refusal (ap (λ (x : At). x.refusal) e))
+    go false e = ap (λ (x : At). record { refusal = x.refusal; at = place }) e
 
 -- ---- the number behind a collection's file
 

@@ -1,4 +1,5 @@
 -- What is loaded of an accepted job, from the walk through it and the rows.
+use Rattle.std.specs.Prelude.{Err}
 use Prim.Native.Nat.{ℕ, ◌+◌, ◌/◌, ◌≤◌, ◌<◌}
 use mathlib.Core.Path.{◌≡◌, refl, sym, ap, ◌∙◌, subst}
 use mathlib.Core.Bool.{Bool, true, false}
@@ -8,21 +9,29 @@ use lib.ListN.{length, get_or, get_or-map, get_or-eq_default}
 use borrow.Author.Tests.{leb-true}
 use Rattle.font.specs.declared.attributes.Attributes.{Attributes}
 use Rattle.font.specs.declared.font.FontInfo.{FontInfo}
+use Rattle.font.specs.declared.refusal.Refusal.{Refusal}
+use Rattle.font.specs.declared.refusal.Refusal.TheVariants.{WrongOutput, Overlong, PastEnd, OverLimit, NotHeld, BadDirectory, NoCharmap, ManyAxes, NoFace, Unknown, BadNumber, BytesLeft, NoRequest, FourthSetting, NoFont, DamagedTable}
+use Rattle.font.specs.Refusals as Refusals
 use Rattle.font.specs.Tables.{u16_at}
-use Rattle.font.specs.Slant.{is_reading}
+use Rattle.font.specs.declared.slant.Reading.{Reading}
+use Rattle.font.specs.declared.slant.Reading.TheVariants.{AsStated, Opposite}
+use Rattle.font.specs.Slant.{is_reading, reading_number}
 use Rattle.font.specs.Font.{font_refusal, refusal_under}
 use Rattle.font.proofs.FaceOf.{under_reading, attributes_of_face}
 use Rattle.matching.specs.Matching.{has_axis, slnt}
-use Rattle.matching.specs.Rows.{row_of}
+use Rattle.matching.specs.declared.rows.Row.{Row}
+use Rattle.matching.specs.Rows.{no_row, row_of}
 use Rattle.matching.proofs.Ranks.{Tri, low, same, high, tri}
-use Rattle.query.specs.declared.job.Checked.{Checked}
-use Rattle.query.specs.declared.job.Walked.{Walked}
+use Rattle.font.proofs.Refusals.{not_zero}
+use Rattle.query.specs.Job.{Checked}
+use Rattle.query.specs.Positions.{WalkEnd}
 use Rattle.query.specs.Sizes.{most_bytes, most_faces, most_overrides, most_families}
 use Rattle.query.specs.Reader.{Reader, Got, refused, got, many}
 use Rattle.query.specs.Fields.{NumberedFont, count, counted}
 use Rattle.query.specs.Entries.{Face, Override, Family, read_face, read_override, read_family}
 use Rattle.query.specs.Job.{Job, read_job, check_job, job_in, job_of}
-use Rattle.query.specs.Positions.{LiesAt, WalkAnswer}
+use Rattle.query.specs.declared.job.Refused.{Refused}
+use Rattle.query.specs.Positions.{LiesAt, WalkAnswer, walk_in}
 use Rattle.query.specs.Values.{face_at}
 use Rattle.query.specs.View.{after_overrides, entry_of, stated_by, families_of, view_by, view_of}
 use Rattle.query.specs.CallTables.{marks, attributes_in, axis_in, row_at, rows_after, begin_of, nowhere, FacesLie, EntryRow, RowsAt, RowsOverridden, RowIn, RowShows, members_in, FamilyIn, Room, LoadAnswer}
@@ -80,7 +89,7 @@ faces_counted s = go (read_job s) refl
 
 -- ---- an accepted job
 
-module _ {s : List ℕ} {w : Walked} {before families : List ℕ} {asked : ℕ} (walks : WalkAnswer s w before families asked) (z : w.refusal ≡ 0) where
+module _ {s : List ℕ} {w : WalkEnd} {before families : List ℕ} {asked : ℕ} (walks : WalkAnswer s w before families asked) (z : w.refusal ≡ 0) where
   job_accepted : (check_job s).refusal ≡ 0
   job_accepted = sym (ap (λ (c : Checked). c.refusal) walks.checked) ∙ z
 
@@ -124,14 +133,14 @@ module _ {s : List ℕ} {w : Walked} {before families : List ℕ} {asked : ℕ} 
 
     -- ---- the rows
 
-    module _ {reading m : ℕ} (read_as : is_reading reading ≡ true) {old rows after : List (List ℕ)} (faces : RowsAt reading s 2 n old rows) (room : Room s old)
+    module _ {reading m : ℕ} (read_as : is_reading reading ≡ true) {old rows after : List Row} (faces : RowsAt reading s 2 n old rows) (room : Room s old)
         (overridden : RowsOverridden s (w.overrides + 2) m rows after) (number : m ≡ u16_at s w.overrides) where
       rows_after_lem : after ≡ rows_after (job_of s).overrides rows
       rows_after_lem =
           overridden.are (length (job_of s).faces) (job_of s).overrides (omega (arith, faces.long)) (rw number section.entries)
 
       module _ (i : ℕ) (l : i < length (job_of s).faces) where
-        abbrev there : EntryRow reading s (entry_of (job_of s).faces i) (get_or rows i [])
+        abbrev there : EntryRow reading s (entry_of (job_of s).faces i) (get_or rows i no_row)
         there = faces.each (job_of s).faces lie i (omega (arith, faces_number))
 
         abbrev p : ℕ
@@ -153,7 +162,7 @@ module _ {s : List ℕ} {w : Walked} {before families : List ℕ} {asked : ℕ} 
         taken_under = under_reading reading font.file font.number read_as ∙ taken
 
         -- before the overrides
-        stated : get_or rows i [] ≡ row_of f.attributes (marks p (face_at s p).held (axis_in font slnt))
+        stated : get_or rows i no_row ≡ row_of f.attributes (marks p (face_at s p).held (axis_in font slnt))
         unfolding attributes_in row_at stated_by
         stated =
             there.is
@@ -163,28 +172,28 @@ module _ {s : List ℕ} {w : Walked} {before families : List ℕ} {asked : ℕ} 
         slant = stated_axis reading font slnt taken_under ∙ sym (after_axis os i f slnt)
 
         -- the row of the face i by its entry
-        abbrev seen : Face → List ℕ
+        abbrev seen : Face → Row
         seen x =
             row_of (after_overrides os i (stated_by reading x.font)).attributes
             (marks p x.held (has_axis (after_overrides os i (stated_by reading x.font)) slnt))
 
-        row_is : get_or after i [] ≡ row_of (after_overrides os i f).attributes (marks p (face_at s p).held (has_axis (after_overrides os i f) slnt))
+        row_is : get_or after i no_row ≡ row_of (after_overrides os i f).attributes (marks p (face_at s p).held (has_axis (after_overrides os i f) slnt))
         row_is =
-            ap (λ (xs : List (List ℕ)). get_or xs i []) rows_after_lem ∙ row_after os rows i f _ (omega (arith, faces.long)) stated
+            ap (λ (xs : List Row). get_or xs i no_row) rows_after_lem ∙ row_after os rows i f _ (omega (arith, faces.long)) stated
             ∙ ap (λ (b : Bool). row_of (after_overrides os i f).attributes (marks p (face_at s p).held b)) slant
 
-        row_in : RowIn s i (get_or after i [])
+        row_in : RowIn s i (get_or after i no_row)
         unfolding row_of
         row_in =
             record {
               entry = p;
-              told = ap (λ (r : List ℕ). get_or r 4 0 / 4) row_is ∙ mark_entry _ _ p;
+              told = ap (λ (r : Row). r.marks / 4) row_is ∙ mark_entry _ _ p;
               face = there.face_is;
               taken = taken;
               inside = there.inside;
             }
 
-        row_shows : RowShows (view_of reading (job_of s)) i (get_or after i [])
+        row_shows : RowShows (view_of reading (job_of s)) i (get_or after i no_row)
         unfolding view_of view_by
         row_shows = record { entry = p; is = row_is ∙ ap seen there.face_is }
 
@@ -237,7 +246,11 @@ module _ {s : List ℕ} {w : Walked} {before families : List ℕ} {asked : ℕ} 
 
 -- ---- a refused job
 
-pub loads_nothing : {reading : ℕ} {s : List ℕ} {w : Walked} {before families : List ℕ} {asked : ℕ} {rows : List (List ℕ)}
+pub refused_walk : (why : Refused) → (walk_in (Err why)).refusal ≡ 0 → ⊥
+unfolding walk_in
+refused_walk why = not_zero why.refusal
+
+pub loads_nothing : {reading : ℕ} {s : List ℕ} {w : WalkEnd} {before families : List ℕ} {asked : ℕ} {rows : List Row}
     → WalkAnswer s w before families asked → (w.refusal ≡ 0 → ⊥) → LoadAnswer reading s w rows families asked
 loads_nothing walks h =
     record {

@@ -6,7 +6,7 @@ use mathlib.Core.List.{List, [], ◌∷◌, ◌++◌}
 use native.Mathlib.Omega.{arith}
 use lib.Dec.{ltb, eqb}
 use lib.ListN.{length}
-use borrow.Author.Tests.{lt-ltb, le-ltb, eq-eqb, ne_eqb}
+use borrow.Author.Tests.{lt-ltb, le-ltb, ltb-true, ltb-false, eq-eqb, ne_eqb}
 use Rattle.matching.specs.Below.{places_below}
 use Rattle.matching.specs.Order.{Family, same_face, equal_places}
 use Rattle.matching.proofs.Ranks.{Tri, low, same, high, tri}
@@ -109,3 +109,22 @@ module _ (family : Family) (held : ℕ → Bool) (chosen : ℕ) where
   pub none_kept : family.count ≤ chosen → keep held (equal_places family chosen) ≡ []
   unfolding equal_places keep
   none_kept l = rw (le-ltb chosen family.count l) refl
+
+  never : (n : ℕ) → places_below (λ i. held i && false) n ≡ []
+  unfolding places_below
+  never zero = refl
+  never (suc n) = λ k. never n k ++ cond (none (held n) k) (n ∷ []) []
+    where
+      none : (b : Bool) → b && false ≡ false
+      none true = refl
+      none false = refl
+
+  -- so whether one is chosen or not
+  pub chosen_kept : keep held (equal_places family chosen)
+      ≡ places_below (λ i. held i && (ltb chosen family.count && same_face (family.face i) (family.face chosen))) family.count
+  chosen_kept = go (ltb chosen family.count) refl
+    where
+      go : (b : Bool) → ltb chosen family.count ≡ b
+          → keep held (equal_places family chosen) ≡ places_below (λ i. held i && (b && same_face (family.face i) (family.face chosen))) family.count
+      go true e = equal_kept (ltb-true chosen family.count e)
+      go false e = none_kept (ltb-false chosen family.count e) ∙ sym (never family.count)

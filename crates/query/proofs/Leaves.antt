@@ -1,7 +1,7 @@
 -- What is known of each field that was read: its value, the next position, that it lies in the job, and that it passed its test.
-use Prim.Native.Nat.{ℕ, ◌+◌, ◌-◌, ◌≤◌, ◌<◌}
-use mathlib.Core.Path.{◌≡◌, sym, ap, ◌∙◌}
-use mathlib.Core.Bool.{Bool, true, false, cond}
+use Prim.Native.Nat.{ℕ, ◌^◌, ◌≤◌, ◌<◌}
+use mathlib.Core.Path.{◌≡◌, refl, ◌∙◌}
+use mathlib.Core.Bool.{Bool, true, false}
 use mathlib.Core.List.{List}
 use native.Mathlib.Omega.{arith}
 use lib.ListN.{length, get_or}
@@ -10,18 +10,14 @@ use lib.Ieee.{Float, binary32, of_bits}
 use lib.Ieee.Scale.{finite}
 use Rattle.font.specs.Single.{accepted_ratio}
 use Rattle.font.specs.Tables.{u16_at, u32_at}
-use Rattle.query.specs.declared.fields.At.{At}
+use Rattle.std.specs.Prelude.{Ok}
+use Rattle.query.specs.Reader.{At, end_in}
 use Rattle.query.specs.Reader.{Reader, over_limit, not_held, no_face, unknown, bad_number, got, done, ◌>>=◌, many, ended}
 use Rattle.query.specs.Fields.{byte, half, word, single, ratio, value, count, counted, held_byte, face_number, mask, kind, spare_byte, spare_word, or_spare}
-use Rattle.query.specs.declared.sections.Section.{Section}
-use Rattle.query.specs.declared.sections.Section.TheVariants.{Faces, Overrides, Families, Requests}
-use Rattle.query.specs.Sizes.{most_places}
-use Rattle.query.specs.Entries.{read_face, read_pair, read_override, read_family, read_request}
-use Rattle.query.specs.declared.entries.Item.{Item}
-use Rattle.query.specs.declared.entries.Item.TheVariants as Item'
-use Rattle.query.specs.Items.{Value, read_item, size_of}
-use Rattle.query.specs.Sections.{Entry, read_entry}
-use Rattle.query.proofs.Ends.{Read, field_read, tested_read, ends, then_got, got_there, many_length, many_goes, same_got}
+use Rattle.query.specs.Sizes.{most_bytes, most_places}
+use Rattle.query.specs.Entries.{read_face, read_override, read_family, read_request}
+use Rattle.query.specs.Sections.{Section, Faces, Overrides, Families, Requests, Entry, read_entry}
+use Rattle.query.proofs.Ends.{Read, field_read, tested_read, ends, then_got, got_there, many_length}
 
 abbrev pub byte_at : List ℕ → ℕ → ℕ
 byte_at s p = get_or s p 0
@@ -80,36 +76,12 @@ pub spare_word_read : (s : List ℕ) (p a q : ℕ) → spare_word s p ≡ got a 
 unfolding spare_word word
 spare_word_read s p a q e = tested_read unknown (λ b. eqb b 0) 4 u32_at s p a q e
 
--- an item of a run has its size, in the job
-item_read : (item : Item) (s : List ℕ) (p : ℕ) (a : Value item) (q : ℕ) → read_item item s p ≡ got a q → (q ≡ p + size_of item) × (p + size_of item ≤ length s)
-unfolding read_pair done
-item_read Item'.Pair s p a q e =
-    let h = then_got word _ s p a q e in
-    let g = then_got value _ s h.1 a q h.3 in
-    let tag = word_read s p h.0 h.1 h.2 in
-    let x = value_read s h.1 g.0 g.1 g.2 in
-    let end = (same_got g.3).1 in
-    (omega (arith, tag.next, x.next), omega (arith, tag.next, x.inside))
-item_read (Item'.FaceNumber n) s p a q e = let r = face_number_read n s p a q e in (r.next, r.inside)
-
-pub item_ends : (item : Item) (s : List ℕ) (p : ℕ) {a : At} → a ≡ ended (read_item item s p) → a.refusal ≡ 0
-    → (a.at ≡ p + size_of item) × (p + size_of item ≤ length s)
-item_ends item s p e z = let r = got_there e z in item_read item s p r.0 _ r.1
-
--- the others follow it
-pub item_goes : (item : Item) (k : ℕ) (s : List ℕ) (p : ℕ) {a : At} → 0 < k → a ≡ ended (read_item item s p) → a.refusal ≡ 0
-    → ended (many (k - 1) (read_item item) s (p + size_of item)) ≡ ended (many k (read_item item) s p)
-item_goes item k s p l read z =
-    ap (λ (q : ℕ). ended (many (k - 1) (read_item item) s q)) (sym (item_ends item s p read z).0) ∙ many_goes (read_item item) k s p l read z
-
 -- how a number that may be spare ends
 pub or_spare_ends : {A B : Type 0} {a : At} (b c : Bool) (none : B) (r : Reader A) (f : A → B) (s : List ℕ) (p : ℕ)
-    → b ≡ c → a ≡ cond b (ended (r s p)) (ended (spare_word s p)) → a ≡ ended (or_spare c none (r >>= λ v. done (f v)) s p)
+    → b ≡ c → (b ≡ true → a ≡ ended (r s p)) → (b ≡ false → a ≡ ended (spare_word s p)) → a ≡ ended (or_spare c none (r >>= λ v. done (f v)) s p)
 unfolding or_spare
-or_spare_ends true true none r f s p h e = ends r f s p e
-or_spare_ends false false none r f s p h e = ends spare_word (λ v. none) s p e
-or_spare_ends true false none r f s p h e = absurd (let z : ◌≡◌ {A = ℕ} 0 1 = cc in omega arith)
-or_spare_ends false true none r f s p h e = absurd (let z : ◌≡◌ {A = ℕ} 0 1 = cc in omega arith)
+or_spare_ends b true none r f s p h given spare = ends r f s p (given h)
+or_spare_ends b false none r f s p h given spare = ends spare_word (λ v. none) s p (spare h)
 
 -- entries after a 16-bit count are as many as it says
 pub counted_length : {A : Type 0} (limit : ℕ) (r : Reader A) (s : List ℕ) (p : ℕ) (xs : List A) (q : ℕ) → counted limit r s p ≡ got xs q → length xs ≡ u16_at s p
@@ -129,5 +101,7 @@ entry_starts (Families n) s p a q e =
     omega (arith, (count_read most_places s p h.0 h.1 h.2).inside)
 entry_starts Requests s p a q e = let h = then_got half _ s p a q e in omega (arith, (half_read s p h.0 h.1 h.2).inside)
 
-pub entry_begins : (section : Section) (s : List ℕ) (p : ℕ) {a : At} → a ≡ ended (read_entry section s p) → a.refusal ≡ 0 → p < length s
-entry_begins section s p e z = let r = got_there e z in entry_starts section s p r.0 _ r.1
+-- at a position of 32 bits
+pub entry_begins : (section : Section) (s : List ℕ) (p q : ℕ) → length s ≤ most_bytes → end_in (Ok q) ≡ ended (read_entry section s p) → p < 2 ^ 32
+unfolding end_in
+entry_begins section s p q l e = let r = got_there e refl in omega (arith, entry_starts section s p r.0 _ r.1)

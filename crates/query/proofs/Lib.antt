@@ -2,6 +2,7 @@
 -- How a reader ends: what the code of a field, an entry and a section is proved from.
 pub mod Ends
 pub mod Leaves
+pub mod Runs
 pub mod Halves
 pub mod Fonts
 pub mod Checks
@@ -41,12 +42,14 @@ pub mod KeptPlaces
 pub mod Members
 pub mod FamilyLists
 pub mod RowFamilies
+pub mod Loaded
 pub mod Turns
 pub mod SoundOffers
 pub mod TwoFaces
 -- The offer call, the cursor, and the demands over a job.
 pub mod NamedFaces
 pub mod AnswerCases
+pub mod CodeAnswers
 pub mod CursorSteps
 pub mod Demands
 -- As for a lone font with the same tables.

@@ -1,4 +1,5 @@
 -- Two jobs within the limits that differ in fonts with the same tables alone are answered alike, but for the `cmap` offset (`specs/LoneFonts.antt`).
+use Rattle.std.specs.Prelude.{Option, None, Some}
 use Prim.Native.Nat.{ℕ, zero, suc, ◌<◌}
 use mathlib.Core.Path.{◌≡◌, refl, sym, ap, ◌∙◌, subst}
 use mathlib.Core.Bool.{Bool, true, false, cond}
@@ -21,9 +22,7 @@ use Rattle.matching.specs.declared.order.Request as Matching
 use Rattle.matching.specs.Matching.{face_of, axis_at, axis_count_of, axis_place, has_axis, no_face, blank, family_of, request_of}
 use Rattle.matching.specs.Synthesis.{varies_of}
 use Rattle.query.specs.declared.answer.Offer.{Offer}
-use Rattle.query.specs.declared.answer.Answer.{Answer}
-use Rattle.query.specs.declared.offers.Offered.{Offered}
-use Rattle.query.specs.declared.offers.Offered.TheVariants.{At, Past}
+use Rattle.query.specs.Call.{CallAnswer}
 use Rattle.query.specs.Sizes.{record_size, most_bytes}
 use Rattle.query.specs.Entries.{Face, Override, Family, Request}
 use Rattle.query.specs.Job.{Job}
@@ -134,7 +133,7 @@ named_known reading job fits request o h =
     (every_in (λ i. (i < n) × Fits16 i) 0 (get_or (families_of job) o.family []) (rw same family.members) o.place h.1).0
 
 -- the offer of a number is one of the list, or lies past it
-module _ (P : Offer → Type 0) (Q : Offered → Type 0) (found : (o : Offer) → P o → Q (At o)) (past : Q Past) where
+module _ (P : Offer → Type 0) (Q : (Option Offer) → Type 0) (found : (o : Offer) → P o → Q (Some o)) (past : Q None) where
   offered_in : (xs : List Offer) → ((k : ℕ) → k < length xs → P (get_or xs k (offer_of 0 0))) → (n : ℕ) → Q (offer_at xs n)
   unfolding offer_at pick
   offered_in [] h n = past
@@ -148,7 +147,7 @@ unfolding without_offer
 none_alike i j n h = record { result = refl; offer = refl; synthesis = refl; symbol = refl; roman = refl; offset = λ z. absurd (h z) }
 
 -- the 40 bytes of two answers
-bytes_alike : {i j : Job} {a b : Answer} → AnswersAlike i j a b
+bytes_alike : {i j : Job} {a b : CallAnswer} → AnswersAlike i j a b
     → (take 32 (record_bytes a.offer a.synthesis a.charmap_index) ≡ take 32 (record_bytes b.offer b.synthesis b.charmap_index))
     × (drop 36 (record_bytes a.offer a.synthesis a.charmap_index) ≡ drop 36 (record_bytes b.offer b.synthesis b.charmap_index))
 unfolding record_bytes head_bytes slot_at slot_bytes index_bytes bytes16 bytes32
@@ -157,11 +156,11 @@ bytes_alike h = (
   (λ k. drop 36 (record_bytes (h.offer k) (h.synthesis k) (record { subtable_offset = 0; is_symbol = h.symbol k; is_mac_roman = h.roman k }))),
 )
 
-written_alike : {i j : Job} {a b : Answer} → AnswersAlike i j a b → (out : List ℕ) → CallsAlike (written a out) (written b out)
+written_alike : {i j : Job} {a b : CallAnswer} → AnswersAlike i j a b → (out : List ℕ) → CallsAlike (written a out) (written b out)
 unfolding written unwritten
 written_alike {a = a} {b = b} h out = rw h.result (go (eqb b.result 0))
   where
-    bytes : Answer → Called
+    bytes : CallAnswer → Called
     bytes x = record { result = 0; output = record_bytes x.offer x.synthesis x.charmap_index }
 
     go : (z : Bool) → CallsAlike (cond z (bytes a) (unwritten b.result out)) (cond z (bytes b) (unwritten b.result out))
@@ -208,11 +207,11 @@ module _ (i j : Job) (fits-i : JobFits i) (fits-j : JobFits j) (same : SameJobs 
   named_same o = ap (λ (fs : List Family). get_or (get_or (map (λ (m : Family). m.members) fs) o.family []) o.place 0) same.families
 
   at_alike : is_reading reading ≡ true → (r : Request) (o : Offer) → named j o < length j.faces
-      → AnswersAlike i j (answered reading (placed lies (view_of reading j)) r (At o)) (answered reading (view_of reading j) r (At o))
+      → AnswersAlike i j (answered reading (placed lies (view_of reading j)) r (Some o)) (answered reading (view_of reading j) r (Some o))
   unfolding answered with_synthesis synthesis_of_offer face_of_offer members_of view_of view_by placed subtable_at varies_of has_axis axis_place axis_count_of axis_at font_of_offer
   at_alike reads r o known = go (eqb (synthesis_of_offer (view_of reading j) reading r o).refusal 29)
     where
-      answer : Bool → ℕ → Answer
+      answer : Bool → ℕ → CallAnswer
       answer b at =
           cond b (without_offer 29)
           (record {
@@ -227,7 +226,7 @@ module _ (i j : Job) (fits-i : JobFits i) (fits-j : JobFits j) (same : SameJobs 
       go false =
           record { result = refl; offer = refl; synthesis = refl; symbol = refl; roman = refl; offset = λ z. rw (named_same o, font_of_offer) (moved reads (named j o) known) }
 
-  past_alike : (r : Request) → AnswersAlike i j (answered reading (placed lies (view_of reading j)) r Past) (answered reading (view_of reading j) r Past)
+  past_alike : (r : Request) → AnswersAlike i j (answered reading (placed lies (view_of reading j)) r None) (answered reading (view_of reading j) r None)
   unfolding answered
   past_alike r = none_alike i j 1 (λ z. omega (arith, z))
 
@@ -248,7 +247,7 @@ module _ (i j : Job) (fits-i : JobFits i) (fits-j : JobFits j) (same : SameJobs 
 
     request_alike : is_reading reading ≡ true → AnswersAlike i j (request_answer reading i k n) (request_answer reading j k n)
     unfolding request_answer view_answer offers_of
-    request_alike reads = subst (λ (a : Answer). AnswersAlike i j a (request_answer reading j k n)) (sym answer_same) (go (ltb k (length j.requests)))
+    request_alike reads = subst (λ (a : CallAnswer). AnswersAlike i j a (request_answer reading j k n)) (sym answer_same) (go (ltb k (length j.requests)))
       where
         r : Request
         r = request_of_job j k

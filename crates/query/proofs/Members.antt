@@ -9,6 +9,7 @@ use lib.Seq.{get_or-take, get_or-drop}
 use borrow.Author.Tests.{ne_eqb}
 use Rattle.font.specs.Tables.{u16_at}
 use Rattle.font.proofs.Fields.{in16}
+use Rattle.matching.specs.declared.rows.Row.{Row}
 use Rattle.matching.specs.Rows.{number_at, Placed}
 use Rattle.query.specs.Listed.{MembersKnown, members_at}
 
@@ -37,7 +38,7 @@ pub members_part : (s : List ℕ) (p n : ℕ) → n ≡ u16_at s p → take (p +
 unfolding members_at
 members_part s p n e = rw (e, add-sub_cancel_left (p + 2) (2 * u16_at s p))
 
-pub places_there : (s : List ℕ) (p : ℕ) (rows : List (List ℕ)) → MembersKnown s p (length rows) → (u16_at s p ≡ 0 → ⊥) → Placed rows (members_at s p) (u16_at s p)
+pub places_there : (s : List ℕ) (p : ℕ) (rows : List Row) → MembersKnown s p (length rows) → (u16_at s p ≡ 0 → ⊥) → Placed rows (members_at s p) (u16_at s p)
 places_there s p rows known some =
     let whole = known.whole some in
     record {

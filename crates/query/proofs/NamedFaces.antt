@@ -1,11 +1,13 @@
 -- The face that an offer names, from what is loaded of the job.
 use Prim.Native.Nat.{ℕ, ◌+◌, ◌*◌, ◌/◌, ◌<◌}
 use mathlib.Core.Path.{◌≡◌, ap, ◌∙◌}
-use mathlib.Core.List.{List, []}
+use mathlib.Core.List.{List}
 use native.Mathlib.Omega.{arith}
 use lib.ListN.{length, get_or, length-map}
 use Rattle.font.specs.declared.font.FontInfo.{FontInfo}
 use Rattle.font.specs.Tables.{u16_at}
+use Rattle.matching.specs.declared.rows.Row.{Row}
+use Rattle.matching.specs.Rows.{no_row}
 use Rattle.query.specs.declared.answer.Offer.{Offer}
 use Rattle.query.specs.Sizes.{most_families}
 use Rattle.query.specs.Entries.{Face, Family}
@@ -16,7 +18,7 @@ use Rattle.query.specs.Values.{face_at}
 use Rattle.query.specs.CallTables.{FontTaken, begin_of, OfferedFace, members_in, TablesOf, RowIn, FamilyIn}
 use Rattle.query.specs.Listed.{SectionIn, Names}
 
-module _ {s : List ℕ} {rows : List (List ℕ)} {families : List ℕ} (loaded : TablesOf s rows families) {o : Offer} (there : Names s o) where
+module _ {s : List ℕ} {rows : List Row} {families : List ℕ} (loaded : TablesOf s rows families) {o : Offer} (there : Names s o) where
   abbrev number : ℕ
   number = get_or (members_in s o.family) o.place 0
 
@@ -37,10 +39,10 @@ module _ {s : List ℕ} {rows : List (List ℕ)} {families : List ℕ} (loaded :
     pub number_has_row : i < length rows
     number_has_row = omega (arith, number_known, loaded.room)
 
-    row : RowIn s i (get_or rows i [])
+    row : RowIn s i (get_or rows i no_row)
     row = loaded.row i number_known
 
-    module _ {entry : ℕ} (lies : entry ≡ get_or (get_or rows i []) 4 0 / 4) where
+    module _ {entry : ℕ} (lies : entry ≡ (get_or rows i no_row).marks / 4) where
       entry_is : entry ≡ row.entry
       entry_is = lies ∙ row.told
 

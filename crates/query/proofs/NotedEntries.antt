@@ -6,7 +6,7 @@ use native.Mathlib.Omega.{arith}
 use lib.ListN.{length, get_or, set, drop, length-set}
 use lib.Seq.{get_or-drop, drop-drop, get_or-set_same, get_or-set_other}
 use Rattle.matching.proofs.Ranks.{Tri, low, same, high, tri}
-use Rattle.query.specs.declared.fields.At.{At}
+use Rattle.query.specs.Reader.{At}
 use Rattle.query.specs.Reader.{Reader, got, done, many, ended}
 use Rattle.query.specs.Positions.{LiesAt, NotesAt, NotedRun, KeptFrom}
 use Rattle.query.proofs.Ends.{then_got, not_got, many_stops, many_goes, many_over, many_length}

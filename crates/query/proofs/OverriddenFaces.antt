@@ -64,7 +64,7 @@ module _ (s : List ℕ) (at count : ℕ) where
 -- the face that the code makes of one
 pub face_overridden : (s : List ℕ) (at : ℕ) (f : FontInfo) {paired : FontInfo} {n : ℕ} {a : Attributes} {g : FontInfoOverride}
     → n ≡ get_or s (at + 16) 0 → paired ≡ after_pairs (pairs_at s (at + override_head) n) n f → g ≡ given_at s at → a ≡ overridden f.attributes g
-    → record { attributes = a; axes = paired.axes; axis_count = f.axis_count; charmap_index = f.charmap_index } ≡ overridden_by (override_at s at) f
+    → record paired { attributes = a } ≡ overridden_by (override_at s at) f
 unfolding overridden_by with_override override_at after_pairs with_axes
 face_overridden s at f en ep eg ea =
     λ k.
@@ -74,8 +74,8 @@ face_overridden s at f en ep eg ea =
           (ap (λ (h : FontInfo). h.axes) ep
           ∙ (λ j. set_defaults f.axes f.axis_count (tags_of (pairs (en j))) (values_of (pairs (en j))) (en j))
           ∙ (λ j. set_defaults f.axes f.axis_count (tags_of (pairs m)) (values_of (pairs m)) (sym (all_pairs s (at + override_head) m) j))) k;
-      axis_count = f.axis_count;
-      charmap_index = f.charmap_index;
+      axis_count = ap (λ (h : FontInfo). h.axis_count) ep k;
+      charmap_index = ap (λ (h : FontInfo). h.charmap_index) ep k;
     }
   where
     m : ℕ

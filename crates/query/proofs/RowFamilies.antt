@@ -12,7 +12,8 @@ use Rattle.font.specs.Tables.{u16_at}
 use Rattle.font.specs.declared.attributes.Attributes.{Attributes}
 use Rattle.matching.specs.declared.order.Request.{Request}
 use Rattle.matching.specs.Matching.{face_of, family_of, has_axis, slnt, no_face}
-use Rattle.matching.specs.Rows.{face_of_row, place_row, family_of_rows, row_of}
+use Rattle.matching.specs.declared.rows.Row.{Row}
+use Rattle.matching.specs.Rows.{no_row, face_of_row, place_row, family_of_rows, row_of}
 use Rattle.matching.proofs.Gathered.{row_face}
 use Rattle.matching.proofs.Ranks.{Tri, low, same, high, tri}
 use Rattle.query.specs.Sizes.{most_families}
@@ -70,7 +71,7 @@ number_offers_lem view request f = go (ltb f (length view.families)) refl
 
 -- ---- families of a job, by its rows
 
-module _ {s : List ℕ} {rows : List (List ℕ)} {families : List ℕ} (loaded : TablesOf s rows families) where
+module _ {s : List ℕ} {rows : List Row} {families : List ℕ} (loaded : TablesOf s rows families) where
   no_members : (f : ℕ) → most_families ≤ f → members_in s f ≡ []
   unfolding families_of
   no_members f l =
@@ -99,7 +100,7 @@ module _ {s : List ℕ} {rows : List (List ℕ)} {families : List ℕ} (loaded :
         }
 
     -- the row of a place is that of the family's face there
-    row_at : (i : ℕ) → i < length members → place_row rows (members_at s at) i ≡ get_or rows (get_or members i 0) []
+    row_at : (i : ℕ) → i < length members → place_row rows (members_at s at) i ≡ get_or rows (get_or members i 0) no_row
     unfolding place_row
     row_at i l =
         rw (number_of s at (members_known.whole (λ e. omega (arith, lies.count))) i (omega (arith, lies.count)), lies.member i l)
@@ -159,22 +160,22 @@ module _ {s : List ℕ} {rows : List (List ℕ)} {families : List ℕ} (loaded :
           right g k (high q) = rw (other g (omega arith)) (counted.right g k)
 
 -- none is counted yet
-pub none_counted : (s : List ℕ) (rows : List (List ℕ)) (request : Request) (families : List ℕ) → Uncounted families → Counted s rows request families
+pub none_counted : (s : List ℕ) (rows : List Row) (request : Request) (families : List ℕ) → Uncounted families → Counted s rows request families
 none_counted s rows request families fresh = record { right = λ f l n. absurd (n (omega (arith, fresh f l))) }
 
 -- ---- rows of a view
 
-module _ (reading : ℕ) {s : List ℕ} {rows : List (List ℕ)} {families : List ℕ} (loaded : TablesOf s rows families) (shows : RowsShow reading s rows) where
+module _ (reading : ℕ) {s : List ℕ} {rows : List Row} {families : List ℕ} (loaded : TablesOf s rows families) (shows : RowsShow reading s rows) where
   abbrev view : View
   view = view_of reading (job_of s)
 
-  face_at_lem : (i : ℕ) → i < length (job_of s).faces → face_of_row (get_or rows i []) ≡ face_of (view.font i)
+  face_at_lem : (i : ℕ) → i < length (job_of s).faces → face_of_row (get_or rows i no_row) ≡ face_of (view.font i)
   face_at_lem i l =
       let r = shows i l in
       let font = view.font i in
       ap face_of_row r.is ∙ row_face font (marks r.entry (view.held i) (has_axis font slnt)) (slant_marked r.entry (view.held i) (has_axis font slnt))
 
-  held_at : (i : ℕ) → i < length (job_of s).faces → is_held (get_or rows i []) ≡ view.held i
+  held_at : (i : ℕ) → i < length (job_of s).faces → is_held (get_or rows i no_row) ≡ view.held i
   held_at i l =
       let r = shows i l in
       let font = view.font i in

@@ -14,6 +14,7 @@ use Rattle.matching.specs.Order as Order
 use Rattle.matching.specs.Order.{choice, same_face, equal_places}
 use Rattle.matching.specs.Matching.{family_of, default_place}
 use Rattle.matching.proofs.Below.{both}
+use Rattle.matching.specs.declared.rows.Row.{Row}
 use Rattle.query.specs.declared.answer.Offer.{Offer}
 use Rattle.query.specs.Job.{job_of}
 use Rattle.query.specs.View.{View, families_of}
@@ -159,7 +160,7 @@ module _ (view : View) (request : Request) where
   offers_sound = offers_hold (number_offers view request) Sound number_sound
 
 -- by rows: a family of the job, and a place in it
-module _ (s : List ℕ) (rows : List (List ℕ)) (request : Request) where
+module _ (s : List ℕ) (rows : List Row) (request : Request) where
   row_named : (f : ℕ) → Each (λ p. Names s (offer_of f p)) 0 (row_offers s rows request f)
   unfolding row_offers row_family offer_of
   row_named f k l = go (ltb f (length (families_of (job_of s)))) refl

@@ -1,4 +1,6 @@
 -- Families in turn: what follows the answer of one family, and of the list of families.
+use Rattle.std.specs.Prelude.{Option, None, Some, Result, Ok, Err}
+use Rattle.std.specs.Result.{result_ok}
 use Prim.Native.Nat.{ℕ, ◌+◌, ◌*◌, ◌≤◌, ◌<◌}
 use mathlib.Core.Path.{◌≡◌, refl, sym, ◌∙◌, ap}
 use mathlib.Core.List.{List, [], ◌∷◌, ◌++◌, map, append_assoc}
@@ -8,12 +10,7 @@ use lib.Seq.{drop-cons}
 use borrow.Author.Tests.{lt-ltb, le-ltb}
 use Rattle.font.specs.Tables.{u16_at}
 use Rattle.font.proofs.Tabulated as Tabulated
-use Rattle.query.specs.declared.families.FamilyOffer.{FamilyOffer}
-use Rattle.query.specs.declared.families.FamilyOffer.TheVariants as Family'
-use Rattle.query.specs.declared.offers.ListOffer.{ListOffer}
-use Rattle.query.specs.declared.offers.ListOffer.TheVariants as List'
-use Rattle.query.specs.declared.offers.Offered.{Offered}
-use Rattle.query.specs.declared.offers.Offered.TheVariants as Offered'
+use Rattle.query.specs.declared.answer.Offer.{Offer}
 use Rattle.query.specs.Values.{numbers_at, list_at}
 use Rattle.query.specs.Offers.{pick, offer_of, in_turn, offers, offer_at}
 use Rattle.query.proofs.Picked.{pick_then, pick_map, pick_append, pick_take}
@@ -30,33 +27,28 @@ list_number s at k l = Tabulated.element (λ i. u16_at s (at + 1 + 2 * i)) (get_
 
 -- ---- in turn
 
--- what follows the answer of the fallbacks
-abbrev pub after_all : ListOffer → Offered
-after_all (List'.At o) = Offered'.At o
-after_all (List'.Left k) = Offered'.Past
-
 -- Each family's offers are the places that `family` gives of its number.
 module _ (family : ℕ → List ℕ) where
-  abbrev pub places : ℕ → ℕ → FamilyOffer
-  places f = pick Family'.Place Family'.Left (family f)
+  abbrev pub places : ℕ → ℕ → (Result ℕ ℕ)
+  places f = pick Ok Err (family f)
 
-  abbrev pub turns : List ℕ → ℕ → ListOffer
-  turns numbers = pick List'.At List'.Left (in_turn family numbers)
+  abbrev pub turns : List ℕ → ℕ → (Result Offer ℕ)
+  turns numbers = pick Ok Err (in_turn family numbers)
 
   -- what follows the answer of the family of number f, with the others after it
-  abbrev pub after_one : ℕ → List ℕ → FamilyOffer → ListOffer
-  after_one f rest (Family'.Place p) = List'.At (offer_of f p)
-  after_one f rest (Family'.Left k) = turns rest k
+  abbrev pub after_one : ℕ → List ℕ → (Result ℕ ℕ) → (Result Offer ℕ)
+  after_one f rest (Ok p) = Ok (offer_of f p)
+  after_one f rest (Err k) = turns rest k
 
   one : (f : ℕ) (rest : List ℕ) (n : ℕ) → after_one f rest (places f n) ≡ turns (f ∷ rest) n
   unfolding in_turn
   one f rest n =
-      pick_then (after_one f rest) Family'.Place Family'.Left (family f) n
-      ∙ sym (pick_map List'.At (turns rest) (offer_of f) (family f) n)
-      ∙ sym (pick_append List'.At List'.Left (map (offer_of f) (family f)) (in_turn family rest) n)
+      pick_then (after_one f rest) Ok Err (family f) n
+      ∙ sym (pick_map Ok (turns rest) (offer_of f) (family f) n)
+      ∙ sym (pick_append Ok Err (map (offer_of f) (family f)) (in_turn family rest) n)
 
   -- the number at place k of a list, with those after it
-  pub one_more : (numbers : List ℕ) (k f n : ℕ) (r : FamilyOffer) → k < length numbers → f ≡ get_or numbers k 0 → r ≡ places f n
+  pub one_more : (numbers : List ℕ) (k f n : ℕ) (r : (Result ℕ ℕ)) → k < length numbers → f ≡ get_or numbers k 0 → r ≡ places f n
       → turns (drop k numbers) n ≡ after_one f (drop (k + 1) numbers) r
   one_more numbers k f n r l e h =
       ap (λ s. turns s n) (drop-cons numbers k 0 l ∙ rw (e, add-one k) refl)
@@ -64,7 +56,7 @@ module _ (family : ℕ → List ℕ) where
       ∙ ap (after_one f (drop (k + 1) numbers)) (sym h)
 
   -- none is left
-  pub no_more : (numbers : List ℕ) (k n : ℕ) → length numbers ≤ k → turns (drop k numbers) n ≡ List'.Left n
+  pub no_more : (numbers : List ℕ) (k n : ℕ) → length numbers ≤ k → turns (drop k numbers) n ≡ Err n
   unfolding in_turn pick
   no_more numbers k n l = ap (λ s. turns s n) (drop_of_length-le numbers l)
 
@@ -76,22 +68,22 @@ module _ (family : ℕ → List ℕ) where
       ∙ sym (append_assoc (map (offer_of f) (family f)) (in_turn family fs) (in_turn family fallbacks))
 
   -- what follows the answer of the families
-  abbrev pub after_named : List ℕ → ListOffer → Offered
-  after_named fallbacks (List'.At o) = Offered'.At o
-  after_named fallbacks (List'.Left k) = after_all (turns fallbacks k)
+  abbrev pub after_named : List ℕ → (Result Offer ℕ) → (Option Offer)
+  after_named fallbacks (Ok o) = Some o
+  after_named fallbacks (Err k) = result_ok (turns fallbacks k)
 
-  pub cut_off : (most : ℕ) (named fallbacks : List ℕ) (n : ℕ) → most ≤ n → Offered'.Past ≡ offer_at (offers family most named fallbacks) n
+  pub cut_off : (most : ℕ) (named fallbacks : List ℕ) (n : ℕ) → most ≤ n → None ≡ offer_at (offers family most named fallbacks) n
   unfolding offers offer_at
   cut_off most named fallbacks n l =
-      sym (pick_take Offered'.At Offered'.Past most (in_turn family (named ++ fallbacks)) n ∙ rw (le-ltb n most l) refl)
+      sym (pick_take Some None most (in_turn family (named ++ fallbacks)) n ∙ rw (le-ltb n most l) refl)
 
   pub not_cut : (most : ℕ) (named fallbacks : List ℕ) (n : ℕ) → n < most
       → after_named fallbacks (turns named n) ≡ offer_at (offers family most named fallbacks) n
   unfolding offers offer_at
   not_cut most named fallbacks n l =
-      pick_then (after_named fallbacks) List'.At List'.Left (in_turn family named) n
-      ∙ ap (λ (past : ℕ → Offered). pick Offered'.At past (in_turn family named) n)
-      (λ i k. pick_then after_all List'.At List'.Left (in_turn family fallbacks) k i)
-      ∙ sym (pick_append Offered'.At (λ k. Offered'.Past) (in_turn family named) (in_turn family fallbacks) n)
-      ∙ ap (λ s. pick Offered'.At (λ k. Offered'.Past) s n) (sym (joined named fallbacks))
-      ∙ sym (pick_take Offered'.At Offered'.Past most (in_turn family (named ++ fallbacks)) n ∙ rw (lt-ltb n most l) refl)
+      pick_then (after_named fallbacks) Ok Err (in_turn family named) n
+      ∙ ap (λ (past : ℕ → (Option Offer)). pick Some past (in_turn family named) n)
+      (λ i k. pick_then result_ok Ok Err (in_turn family fallbacks) k i)
+      ∙ sym (pick_append Some (λ k. None) (in_turn family named) (in_turn family fallbacks) n)
+      ∙ ap (λ s. pick Some (λ k. None) s n) (sym (joined named fallbacks))
+      ∙ sym (pick_take Some None most (in_turn family (named ++ fallbacks)) n ∙ rw (lt-ltb n most l) refl)

@@ -14,7 +14,7 @@ use Rattle.matching.specs.Rank.{lower, before, grouped}
 use Rattle.matching.specs.Below.{some, every, last, places_below}
 use Rattle.matching.specs.Order.{zero_angle, fourteen, minus_fourteen, four_hundred, five_hundred, angle, oblique, width_standing, normal_standing, italic_standing, other_standing, side_standing, right_standing, left_standing, oblique_standing, style_standing, weight_standing, same_percent, bears, slant_at, in_width, in_style, in_weight, bearer_of, bearer, has_group, width_before, style_before, weight_before, stands_before, stands_first, choice, same_face, equal_places}
 use Rattle.matching.specs.Matching.{style_number, axis_at, axis_count_of, axis_place, has_axis, slnt, face_of, blank, family_of, request_of, default_place}
-use Rattle.matching.specs.Synthesis.{wdth, wght, ital, width_setting, weight_setting, emboldened, italic_lean, oblique_lean, lean_of, setting_of, skew_of, unvaried, put, added, varies_of, synthesized}
+use Rattle.matching.specs.Synthesis.{wdth, wght, ital, width_setting, weight_setting, differs_from, emboldened, italic_lean, oblique_lean, lean_of, setting_of, skew_of, unvaried, put, added, varies_of, synthesized}
 use Rattle.matching.specs.Faces.{face_with, weighing}
 use Rattle.query.specs.View.{View}
 use Rattle.query.specs.Offers.{keep, among, held_equal, offers_default, family_offers, offer_of, members_of, faces_of, held_in, number_offers, in_turn, offers}
@@ -32,5 +32,5 @@ two_faces = refl
 pub two_syntheses : (reading : ℕ)
     → (synthesized reading (two 1).attributes (varies_of (two 1)) (weighing 700).attributes ≡ unvaried 0 false (pos 0))
     × (synthesized reading (two 0).attributes (varies_of (two 0)) (weighing 700).attributes ≡ unvaried 0 true (pos 0))
-unfolding single of_int round add sum mul lt neg to_bits is_nan to_unsigned order_key key_of_bits first axis_at axis_count_of axis_place has_axis slnt face_with weighing synthesized varies_of unvaried added put width_setting weight_setting emboldened skew_of italic_lean oblique_lean lean_of setting_of wdth wght ital
+unfolding single of_int round add sum mul lt neg to_bits is_nan to_unsigned order_key key_of_bits first axis_at axis_count_of axis_place has_axis slnt face_with weighing synthesized varies_of unvaried added put width_setting weight_setting differs_from emboldened skew_of italic_lean oblique_lean lean_of setting_of wdth wght ital
 two_syntheses reading = (refl, refl)

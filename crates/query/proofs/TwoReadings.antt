@@ -1,4 +1,5 @@
 -- The two readings of a job (`specs/TwoReadings.antt`).
+use Rattle.std.specs.Prelude.{Option, None, Some}
 use Prim.Native.Nat.{ℕ}
 use mathlib.Core.Path.{◌≡◌, refl, sym, ap, ◌∙◌}
 use mathlib.Core.Bool.{Bool, true, false, cond}
@@ -10,13 +11,11 @@ use Rattle.font.specs.declared.charmap.CharmapIndex.{CharmapIndex}
 use Rattle.font.specs.declared.font.FontInfo.{FontInfo}
 use Rattle.font.specs.Slant.{is_reading, opposite_face}
 use Rattle.font.proofs.TwoReadings as Font
-use Rattle.matching.specs.declared.synthesis.Synthesis.{Synthesis}
+use Rattle.matching.specs.Synthesis.{SynthesisAnswer}
 use Rattle.matching.specs.Matching.{family_of, slnt}
 use Rattle.matching.specs.Synthesis.{unvaried, varies_of, opposite_values, opposite_slant}
 use Rattle.matching.proofs.TwoReadings as Matching
 use Rattle.query.specs.declared.answer.Offer.{Offer}
-use Rattle.query.specs.declared.offers.Offered.{Offered}
-use Rattle.query.specs.declared.offers.Offered.TheVariants.{At, Past}
 use Rattle.query.specs.Fields.{NumberedFont}
 use Rattle.query.specs.Entries.{Request}
 use Rattle.query.specs.Job.{Job}
@@ -49,17 +48,17 @@ module _ (view : View) where
   none_same n = refl
 
   -- an answer with an offer, whose synthesis is not refused
-  offer_same : (o : Offer) (made : Synthesis) (index : CharmapIndex) → made.refusal ≡ 0
+  offer_same : (o : Offer) (made : SynthesisAnswer) (index : CharmapIndex) → made.refusal ≡ 0
       → with_synthesis o (opposite_slant made) index ≡ opposite_answer (with_synthesis o made index)
   unfolding with_synthesis opposite_answer opposite_slant
   offer_same o made index z = rw (ne_eqb made.refusal 29 (λ e. omega arith))
 
-  answered_same : (r : Request) (f : Offered) → answered 1 view r f ≡ opposite_answer (answered 0 view r f)
+  answered_same : (r : Request) (f : (Option Offer)) → answered 1 view r f ≡ opposite_answer (answered 0 view r f)
   unfolding answered
-  answered_same r (At o) =
+  answered_same r (Some o) =
       let index = (face_of_offer view o).charmap_index in
-      ap (λ (made : Synthesis). with_synthesis o made index) (synthesis_same r o) ∙ offer_same o (synthesis_of_offer view 0 r o) index (no_fourth 0 view r o)
-  answered_same r Past = none_same 1
+      ap (λ (made : SynthesisAnswer). with_synthesis o made index) (synthesis_same r o) ∙ offer_same o (synthesis_of_offer view 0 r o) index (no_fourth 0 view r o)
+  answered_same r None = none_same 1
 
   answer_same : (job : Job) (k n : ℕ) → view_answer 1 view job k n ≡ opposite_answer (view_answer 0 view job k n)
   unfolding view_answer

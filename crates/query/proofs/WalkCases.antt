@@ -1,57 +1,58 @@
 -- The walk through a job: what it answers, and where it found the entries of an accepted job, from what its steps do.
 use Prim.Native.Nat.{ℕ, ◌+◌, ◌-◌, ◌≤◌, ◌<◌}
-use mathlib.Core.Path.{◌≡◌, sym, ap, ◌∙◌}
+use mathlib.Core.Path.{◌≡◌, refl, sym, ap, ◌∙◌}
 use mathlib.Core.List.{List}
 use native.Mathlib.Omega.{arith}
 use lib.ListN.{length, get_or}
 use Rattle.font.specs.Tables.{u16_at}
-use Rattle.query.specs.declared.fields.At.{At}
-use Rattle.query.specs.declared.job.Checked.{Checked}
-use Rattle.query.specs.declared.job.Walked.{Walked}
-use Rattle.query.specs.declared.sections.Section.TheVariants.{Families, Requests}
+use Rattle.query.specs.Reader.{At}
+use Rattle.query.specs.Job.{Checked}
+use Rattle.query.specs.Positions.{WalkEnd}
+use Rattle.query.specs.Sections.{Families, Requests}
 use Rattle.query.specs.Sizes.{most_bytes, most_faces, most_overrides, most_families, most_requests}
-use Rattle.query.specs.Reader.{Got, got, ended, ◌>>=◌}
+use Rattle.query.specs.Reader.{Got, got, Reader, onward, ended, ◌>>=◌}
 use Rattle.query.specs.Fields.{counted}
 use Rattle.query.specs.Entries.{Request, read_face, read_override, read_family, read_request}
-use Rattle.query.specs.Job.{Job, at_end, read_sections, check_job, job_of}
-use Rattle.query.specs.Positions.{NotedSection, KeptFrom, end_of, Requested, Begins, SectionsAnswer, WalkAnswer}
-use Rattle.query.proofs.Ends.{stops, goes, not_got}
+use Rattle.query.specs.Job.{Job, at_end, read_sections, answer, check_job, job_of}
+use Rattle.query.specs.Positions.{NotedSection, KeptFrom, checked_end, Requested, Begins, SectionsAnswer, WalkAnswer}
+use Rattle.query.proofs.Ends.{stops, goes, got_there, not_got}
 use Rattle.query.proofs.Leaves.{counted_length}
-use Rattle.query.proofs.Checks.{bytes_left_lem, no_bytes_left, over, answers_0, answers_refusal, accepted, job_read, Sections, sections_read}
+use Rattle.query.proofs.Checks.{bytes_left_lem, no_bytes_left, over, short, answers_none, answers_refusal, answered, accepted, job_read, Sections, sections_read}
 
--- a refusal that was handed on
-not_0 : {a b : At} → b ≡ a → (a.refusal ≡ 0 → ⊥) → b.refusal ≡ 0 → ⊥
-not_0 e h z = h (sym (ap (λ (x : At). x.refusal) e) ∙ z)
+-- how a walk ends at a refusal
+abbrev pub refused_walk : At → WalkEnd
+refused_walk a = record { refusal = a.refusal; position = a.at; overrides = 0; requests = 0; request = 0 }
 
 -- ---- the requests
 
 module _ (s : List ℕ) (at asked : ℕ) where
-  refused_requests : {w : Walked} {a : At} → end_of w ≡ a → (a.refusal ≡ 0 → ⊥)
-      → ((job : List Request → Job) → a ≡ ended ((counted most_requests read_request >>= λ rs. at_end (job rs)) s at)) → Requested s at asked w
-  refused_requests e h end =
+  refused_requests : {a : At} → (a.refusal ≡ 0 → ⊥)
+      → ((job : List Request → Job) → a ≡ ended ((counted most_requests read_request >>= λ rs. at_end (job rs)) s at)) → Requested s at asked (refused_walk a)
+  refused_requests h end =
       record {
-        end = λ job. e ∙ end job;
-        count = λ rs q z. absurd (not_0 e h z);
-        place = λ rs q d z. absurd (not_0 e h z);
+        end = λ job. answers_refusal _ (end job) h;
+        count = λ rs q z. absurd (h z);
+        place = λ rs q d z. absurd (h z);
       }
 
   module _ {a : At} (read : a ≡ ended (counted most_requests read_request s at)) where
     -- the section is refused
-    pub no_requests : (a.refusal ≡ 0 → ⊥) → {w : Walked} → end_of w ≡ a → Requested s at asked w
-    no_requests h e = refused_requests e h (λ job. stops (counted most_requests read_request) (λ rs. at_end (job rs)) s at read h)
+    pub no_requests : (a.refusal ≡ 0 → ⊥) → Requested s at asked (refused_walk a)
+    no_requests h = refused_requests h (λ job. stops (counted most_requests read_request) (λ rs. at_end (job rs)) s at read h)
 
     -- bytes follow it
-    pub bytes_follow : a.refusal ≡ 0 → a.at < length s → {w : Walked} → end_of w ≡ record { refusal = 27; at = a.at } → Requested s at asked w
-    bytes_follow z l e =
-        refused_requests e (λ h. omega arith)
+    pub bytes_follow : a.refusal ≡ 0 → a.at < length s → Requested s at asked (refused_walk (record { refusal = 27; at = a.at }))
+    bytes_follow z l =
+        refused_requests (λ h. omega arith)
         (λ job. goes (counted most_requests read_request) (λ rs. at_end (job rs)) s at read z (λ rs g. bytes_left_lem (job rs) s a.at l))
 
     -- it ends the job
     pub all_requests : {before after : List ℕ} {n m : ℕ} → a.refusal ≡ 0 → length s ≤ a.at → n ≡ u16_at s at → NotedSection Requests s at asked before after
-        → 0 < length after → m ≡ get_or after 0 0 → Requested s at asked (record { refusal = 0; position = a.at; overrides = 0; requests = n; request = m })
+        → 0 < length after → m ≡ get_or after 0 0 → Requested s at asked (record { refusal = 0; position = 0; overrides = 0; requests = n; request = m })
     all_requests {before} {after} z l is notes room there =
         record {
-          end = λ job. goes (counted most_requests read_request) (λ rs. at_end (job rs)) s at read z (λ rs g. no_bytes_left (job rs) s a.at l);
+          end = λ job.
+              answers_none _ (goes (counted most_requests read_request) (λ rs. at_end (job rs)) s at read z (λ rs g. no_bytes_left (job rs) s a.at l)) refl;
           count = λ rs q y e. is ∙ sym (counted_length most_requests read_request s at rs q e);
           place = λ rs q d y e k.
               let here : asked + 0 ≡ asked = omega arith in
@@ -61,11 +62,11 @@ module _ (s : List ℕ) (at asked : ℕ) where
 -- ---- the four sections
 
 -- a refusal ends the walk
-pub refused_sections : {s before families : List ℕ} {asked : ℕ} {w : Walked} {a : At} → a ≡ ended (read_sections s 0) → (a.refusal ≡ 0 → ⊥) → end_of w ≡ a
-    → SectionsAnswer s w before families asked
-refused_sections end h e =
+pub refused_sections : {s before families : List ℕ} {asked : ℕ} {a : At} → a ≡ ended (read_sections s 0) → (a.refusal ≡ 0 → ⊥)
+    → SectionsAnswer s (refused_walk a) before families asked
+refused_sections end h =
     record {
-      end = e ∙ end;
+      end = answers_refusal _ end h;
       begins = λ job q is. absurd (not_got end h is);
       kept = λ job q is. absurd (not_got end h is);
     }
@@ -75,9 +76,10 @@ ends_at : {A : Type 0} {g : Got A} {a : At} {v : A} {q : ℕ} → a ≡ ended g 
 unfolding ended
 ends_at e is = ap (λ (x : At). x.at) (e ∙ ap ended is)
 
-no_refusal : {A : Type 0} {g : Got A} {a : At} {v : A} {q : ℕ} → a ≡ ended g → g ≡ got v q → a.refusal ≡ 0
-unfolding ended
-no_refusal e is = ap (λ (x : At). x.refusal) (e ∙ ap ended is)
+-- what follows what was read
+followed : {A B : Type 0} (r : Reader A) (k : A → Reader B) {s : List ℕ} {p : ℕ} {v : A} {q : ℕ} → r s p ≡ got v q → (r >>= k) s p ≡ k v s q
+unfolding ◌>>=◌ onward
+followed r k e = rw e refl
 
 module _ (s : List ℕ) {a : At} (faces : a ≡ ended (counted most_faces read_face s 0)) where
   pub no_faces : (a.refusal ≡ 0 → ⊥) → a ≡ ended (read_sections s 0)
@@ -99,15 +101,28 @@ module _ (s : List ℕ) {a : At} (faces : a ≡ ended (counted most_faces read_f
           (λ fs e. let same = count ∙ sym (counted_length most_faces read_face s 0 fs a.at e) in
           goes _ _ s a.at (rw same at overrides) y (λ os g. stops _ _ s b.at (rw same at families) h))
 
-      module _ (x : d.refusal ≡ 0) {asked : ℕ} {w : Walked} (requests : Requested s d.at asked w) where
-        sections_end : end_of w ≡ ended (read_sections s 0)
+      module _ (x : d.refusal ≡ 0) {asked : ℕ} {w : WalkEnd} (requests : Requested s d.at asked w) where
+        -- what is read after the third section is all that is read
+        last_section : (job : List Request → Job) × (read_sections s 0 ≡ (counted most_requests read_request >>= λ rs. at_end (job rs)) s d.at)
         unfolding read_sections
-        sections_end =
-            goes _ _ s 0 faces z
-            (λ fs e. let same = count ∙ sym (counted_length most_faces read_face s 0 fs a.at e) in
-            goes _ _ s a.at (rw same at overrides) y
-            (λ os g. goes _ _ s b.at (rw same at families) x
-            (λ ms k. requests.end (λ rs. record { faces = fs; overrides = os; families = ms; requests = rs }))))
+        last_section =
+            let f = got_there faces z in
+            let same : n ≡ length f.0 = count ∙ sym (counted_length most_faces read_face s 0 f.0 a.at f.1) in
+            let o = got_there (rw same at overrides) y in
+            let m = got_there (rw same at families) x in
+            (λ rs. record { faces = f.0; overrides = o.0; families = m.0; requests = rs }, followed _ _ f.1 ∙ (followed _ _ o.1 ∙ followed _ _ m.1))
+
+        sections_end : checked_end w ≡ answer (read_sections s 0)
+        sections_end = requests.end last_section.0 ∙ ap answer (sym last_section.1)
+
+        -- the requests are refused
+        pub no_last : (w.refusal ≡ 0 → ⊥) → {ms₀ ms : List ℕ} → SectionsAnswer s w ms₀ ms asked
+        no_last h =
+            record {
+              end = sections_end;
+              begins = λ job q is. absurd (h (answered sections_end is));
+              kept = λ job q is. absurd (h (answered sections_end is));
+            }
 
         -- the places that the steps came to are those of the job's sections
         record Places (q : ℕ) (j : Job) : Type 0 where
@@ -151,7 +166,7 @@ module _ (s : List ℕ) {a : At} (faces : a ≡ ended (counted most_faces read_f
             begins : (j : Job) (q : ℕ) → read_sections s 0 ≡ got j q → Places q j
                 → Begins s j (record { refusal = w.refusal; position = w.position; overrides = a.at; requests = w.requests; request = w.request }) ms asked
             begins j q is p =
-                let zero : w.refusal ≡ 0 = no_refusal sections_end is in
+                let zero : w.refusal ≡ 0 = answered sections_end is in
                 let read = rw (sym p.fourth) at p.parts.requests in
                 record {
                   override = record { end = p.parts.third; read = rw p.second p.parts.overrides };
@@ -162,28 +177,23 @@ module _ (s : List ℕ) {a : At} (faces : a ≡ ended (counted most_faces read_f
 
 -- ---- the answer
 
-module _ {s before families : List ℕ} {asked : ℕ} {w : Walked} where
-  -- a refusal
-  refuses : record { refusal = w.refusal; position = w.position } ≡ check_job s → (w.refusal ≡ 0 → ⊥) → WalkAnswer s w before families asked
-  refuses is h = record { checked = is; begins = λ z. absurd (h z); kept = λ z. absurd (h z) }
+pub too_long : (s : List ℕ) {before families : List ℕ} {asked : ℕ} → most_bytes < length s
+    → WalkAnswer s (refused_walk (record { refusal = 17; at = 0 })) before families asked
+too_long s l = record { checked = over s l; begins = λ z. absurd (omega arith); kept = λ z. absurd (omega arith) }
 
-  pub too_long : most_bytes < length s → end_of w ≡ record { refusal = 17; at = 0 } → WalkAnswer s w before families asked
-  too_long l e =
-      refuses (ap (λ (x : At). record { refusal = x.refusal; position = x.at }) e ∙ over s l) (not_0 e (λ h. omega arith))
+pub to_the_end : {s before families : List ℕ} {asked : ℕ} {w : WalkEnd} → length s ≤ most_bytes → SectionsAnswer s w before families asked
+    → WalkAnswer s w before families asked
+to_the_end {s} {before} {families} {asked} {w} l whole =
+    record {
+      checked = is;
+      begins = λ z. let r = read z in whole.begins (job_of s) r.0 r.1;
+      kept = λ z. let r = read z in whole.kept (job_of s) r.0 r.1;
+    }
+  where
+    is : checked_end w ≡ check_job s
+    is = whole.end ∙ short s l
 
-  module _ (short : length s ≤ most_bytes) (whole : SectionsAnswer s w before families asked) where
-    pub not_to_the_end : (w.refusal ≡ 0 → ⊥) → WalkAnswer s w before families asked
-    not_to_the_end h = refuses (answers_refusal s short whole.end h) h
-
-    pub to_the_end : w.refusal ≡ 0
-        → WalkAnswer s (record { refusal = 0; position = 0; overrides = w.overrides; requests = w.requests; request = w.request }) before families asked
-    to_the_end z =
-        let is : record { refusal = 0; position = 0 } ≡ check_job s = answers_0 s short whole.end z in
-        let a = accepted s (sym (ap (λ (c : Checked). c.refusal) is)) in
-        let read = (job_read s (job_of s) a.0 a.1).1 in
-        let b = whole.begins (job_of s) a.0 read in
-        record {
-          checked = is;
-          begins = λ y. record { override = b.override; family = b.family; requests = b.requests; request = b.request };
-          kept = λ y. whole.kept (job_of s) a.0 read;
-        }
+    read : w.refusal ≡ 0 → (q : ℕ) × (read_sections s 0 ≡ got (job_of s) q)
+    read z =
+        let a = accepted s (sym (ap (λ (c : Checked). c.refusal) is) ∙ z) in
+        (a.0, (job_read s (job_of s) a.0 a.1).1)

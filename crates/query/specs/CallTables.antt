@@ -1,5 +1,5 @@
 -- What an offer call loads of an accepted job: a row for each face, and where each family begins. No promise to a user cites this.
-use Rattle.std.specs.Prelude.{ℕ, ◌+◌, ◌-◌, ◌*◌, ◌/◌, ◌%◌, ◌^◌, ◌≤◌, ◌<◌, ◌≡◌, Bool, cond, List, [], ◌∷◌, map, eqb, length, get_or, set}
+use Rattle.std.specs.Prelude.{ℕ, ◌+◌, ◌-◌, ◌*◌, ◌/◌, ◌%◌, ◌^◌, ◌≤◌, ◌<◌, ◌≡◌, Bool, cond, List, [], ◌∷◌, map, eqb, length, get_or, set, Option, None, Some}
 use Rattle.font.specs.Single.{order_key, whole_percent}
 use Rattle.font.specs.Tables.{u16_at}
 use Rattle.font.specs.StatedAttributes.{from_tables}
@@ -8,16 +8,14 @@ use Rattle.font.specs.Font.{font_refusal, states_axis}
 use Rattle.font.specs.Overrides.{set_defaults, with_axes}
 use Rattle.font.specs.declared.attributes.Attributes.{Attributes}
 use Rattle.font.specs.declared.font.FontInfo.{FontInfo}
-use Rattle.font.specs.declared.overrides.WidthOverride.{WidthOverride}
-use Rattle.font.specs.declared.overrides.StyleOverride.{StyleOverride}
-use Rattle.font.specs.declared.overrides.WeightOverride.{WeightOverride}
+use Rattle.font.specs.declared.attributes.FontWidth.{FontWidth}
+use Rattle.font.specs.declared.attributes.FontStyle.{FontStyle}
+use Rattle.font.specs.declared.attributes.FontWeight.{FontWeight}
 use Rattle.font.specs.declared.overrides.FontInfoOverride.{FontInfoOverride}
-use Rattle.font.specs.declared.overrides.WidthOverride.TheVariants as Width
-use Rattle.font.specs.declared.overrides.StyleOverride.TheVariants as Style
-use Rattle.font.specs.declared.overrides.WeightOverride.TheVariants as Weight
 use Rattle.matching.specs.Matching.{style_number, has_axis, slnt}
-use Rattle.matching.specs.Rows.{place_row, row_of}
-use Rattle.query.specs.declared.job.Walked.{Walked}
+use Rattle.matching.specs.declared.rows.Row.{Row}
+use Rattle.matching.specs.Rows.{no_row, place_row, row_of}
+use Rattle.query.specs.Positions.{WalkEnd}
 use Rattle.query.specs.Sizes.{most_bytes, most_overrides, most_families, most_places}
 use Rattle.query.specs.Fields.{NumberedFont, counted}
 use Rattle.query.specs.Reader.{many}
@@ -36,11 +34,11 @@ bit_of b = cond b 1 0
 unfoldable pub marks : ℕ → Bool → Bool → ℕ
 marks entry held slant = 4 * entry + (2 * bit_of held + bit_of slant)
 
-unfoldable pub is_held : List ℕ → Bool
-is_held row = eqb (get_or row 4 0 / 2 % 2) 1
+unfoldable pub is_held : Row → Bool
+is_held row = eqb (row.marks / 2 % 2) 1
 
 -- whether the face at a place of a family is held
-unfoldable pub held_row : List (List ℕ) → List ℕ → ℕ → Bool
+unfoldable pub held_row : List Row → List ℕ → ℕ → Bool
 held_row rows members i = is_held (place_row rows members i)
 
 -- the attributes, under a reading, and the axes that a file's font states
@@ -51,30 +49,30 @@ unfoldable pub axis_in : NumberedFont → ℕ → Bool
 axis_in f tag = states_axis f.file (font_start f.file f.number) tag
 
 -- the row of the face whose entry begins at a position, before its overrides
-unfoldable pub row_at : ℕ → List ℕ → ℕ → List ℕ
+unfoldable pub row_at : ℕ → List ℕ → ℕ → Row
 row_at reading s p = row_of (attributes_in reading (face_at s p).font) (marks p (face_at s p).held (axis_in (face_at s p).font slnt))
 
 -- ---- overrides on rows
 
-unfoldable pub with_width : WidthOverride → List ℕ → List ℕ
-with_width Width.Keep row = row
-with_width (Width.Set w) row = set (set row 0 (whole_percent w.ratio)) 3 (order_key w.ratio)
+unfoldable pub with_width : Option FontWidth → Row → Row
+with_width None row = row
+with_width (Some w) row = record row { percent = whole_percent w.ratio; ratio = order_key w.ratio }
 
-unfoldable pub with_style : StyleOverride → List ℕ → List ℕ
-with_style Style.Keep row = row
-with_style (Style.Set t) row = set row 1 (style_number t)
+unfoldable pub with_style : Option FontStyle → Row → Row
+with_style None row = row
+with_style (Some t) row = record row { style = style_number t }
 
-unfoldable pub with_weight : WeightOverride → List ℕ → List ℕ
-with_weight Weight.Keep row = row
-with_weight (Weight.Set w) row = set row 2 (order_key w.value)
+unfoldable pub with_weight : Option FontWeight → Row → Row
+with_weight None row = row
+with_weight (Some w) row = record row { weight = order_key w.value }
 
-unfoldable pub row_overridden : FontInfoOverride → List ℕ → List ℕ
+unfoldable pub row_overridden : FontInfoOverride → Row → Row
 row_overridden o row = with_weight o.weight (with_style o.style (with_width o.width row))
 
 -- overrides in order, each on the row of the face that it names
-unfoldable pub rows_after : List Override → List (List ℕ) → List (List ℕ)
+unfoldable pub rows_after : List Override → List Row → List Row
 rows_after [] rows = rows
-rows_after (o ∷ os) rows = rows_after os (set rows o.face (row_overridden o.given (get_or rows o.face [])))
+rows_after (o ∷ os) rows = rows_after os (set rows o.face (row_overridden o.given (get_or rows o.face no_row)))
 
 -- the font layer does not refuse a font
 abbrev pub FontTaken : NumberedFont → Type 0
@@ -89,7 +87,7 @@ pub record FacesLie (s : List ℕ) (at count : ℕ) : Type 0 where
   pub lie : LiesAt (many count read_face) s at faces
 
 -- the row of a face is that of its entry, before its overrides
-pub record EntryRow (reading : ℕ) (s : List ℕ) (face : Face) (row : List ℕ) : Type 0 where
+pub record EntryRow (reading : ℕ) (s : List ℕ) (face : Face) (row : Row) : Type 0 where
   pub entry : ℕ
   pub is : row ≡ row_at reading s entry
   pub face_is : face_at s entry ≡ face
@@ -97,12 +95,12 @@ pub record EntryRow (reading : ℕ) (s : List ℕ) (face : Face) (row : List ℕ
   pub inside : entry < length s
 
 -- the rows of so many faces that lie one after another from a position on
-pub record RowsAt (reading : ℕ) (s : List ℕ) (at count : ℕ) (before rows : List (List ℕ)) : Type 0 where
+pub record RowsAt (reading : ℕ) (s : List ℕ) (at count : ℕ) (before rows : List Row) : Type 0 where
   pub long : length rows ≡ length before
-  pub each : (faces : List Face) → LiesAt (many count read_face) s at faces → (i : ℕ) → i < count → EntryRow reading s (entry_of faces i) (get_or rows i [])
+  pub each : (faces : List Face) → LiesAt (many count read_face) s at faces → (i : ℕ) → i < count → EntryRow reading s (entry_of faces i) (get_or rows i no_row)
 
 -- rows after the overrides that lie at a position, of faces that all have a row
-pub record RowsOverridden (s : List ℕ) (at count : ℕ) (before after : List (List ℕ)) : Type 0 where
+pub record RowsOverridden (s : List ℕ) (at count : ℕ) (before after : List Row) : Type 0 where
   pub long : length after ≡ length before
   pub are : (n : ℕ) (os : List Override) → n ≤ length before → LiesAt (many count (read_override n)) s at os → after ≡ rows_after os before
 
@@ -124,21 +122,21 @@ pub record OfferedFace (reading : ℕ) (s : List ℕ) (section entry number : �
 -- ---- what is loaded
 
 -- whatever it says of the face i of a job, a row tells where the face's entry begins
-pub record RowIn (s : List ℕ) (i : ℕ) (row : List ℕ) : Type 0 where
+pub record RowIn (s : List ℕ) (i : ℕ) (row : Row) : Type 0 where
   pub entry : ℕ
-  pub told : get_or row 4 0 / 4 ≡ entry
+  pub told : row.marks / 4 ≡ entry
   pub face : face_at s entry ≡ entry_of (job_of s).faces i
   pub taken : FontTaken (face_at s entry).font
   pub inside : entry < length s
 
 -- the row of the face i of a view
-pub record RowShows (view : View) (i : ℕ) (row : List ℕ) : Type 0 where
+pub record RowShows (view : View) (i : ℕ) (row : Row) : Type 0 where
   pub entry : ℕ
   pub is : row ≡ row_of (view.font i).attributes (marks entry (view.held i) (has_axis (view.font i) slnt))
 
 -- the rows of a job's faces under a reading
-abbrev pub RowsShow : ℕ → List ℕ → List (List ℕ) → Type 0
-RowsShow reading s rows = (i : ℕ) → i < length (job_of s).faces → RowShows (view_of reading (job_of s)) i (get_or rows i [])
+abbrev pub RowsShow : ℕ → List ℕ → List Row → Type 0
+RowsShow reading s rows = (i : ℕ) → i < length (job_of s).faces → RowShows (view_of reading (job_of s)) i (get_or rows i no_row)
 
 -- a family's number in the table: where its entry begins and, once its offers are counted, `count_step` times one more than there are
 abbrev pub count_step : ℕ
@@ -173,23 +171,23 @@ abbrev pub nowhere : ℕ
 nowhere = count_step - 1
 
 -- the faces of the job, if it is accepted, all have a row
-abbrev pub Room : List ℕ → List (List ℕ) → Type 0
+abbrev pub Room : List ℕ → List Row → Type 0
 Room s rows = length (job_of s).faces ≤ length rows
 
 -- the face numbers of a family; a number that the job does not have has none
 abbrev pub members_in : List ℕ → ℕ → List ℕ
 members_in s f = get_or (families_of (job_of s)) f []
 
-pub record TablesOf (s : List ℕ) (rows : List (List ℕ)) (families : List ℕ) : Type 0 where
+pub record TablesOf (s : List ℕ) (rows : List Row) (families : List ℕ) : Type 0 where
   pub accepted : (check_job s).refusal ≡ 0
   pub room : Room s rows
-  pub row : (i : ℕ) → i < length (job_of s).faces → RowIn s i (get_or rows i [])
+  pub row : (i : ℕ) → i < length (job_of s).faces → RowIn s i (get_or rows i no_row)
   pub long : length families ≡ most_families
   pub family : (f : ℕ) → f < most_families → FamilyIn s (begin_of (get_or families f 0)) (length (job_of s).faces) (members_in s f)
   pub known : length (job_of s).families ≤ most_families
 
 -- the check call's answer; and of an accepted job what is loaded, its overrides, and the asked request
-pub record LoadAnswer (reading : ℕ) (s : List ℕ) (w : Walked) (rows : List (List ℕ)) (families : List ℕ) (asked : ℕ) : Type 0 where
+pub record LoadAnswer (reading : ℕ) (s : List ℕ) (w : WalkEnd) (rows : List Row) (families : List ℕ) (asked : ℕ) : Type 0 where
   pub checked : record { refusal = w.refusal; position = w.position } ≡ check_job s
   pub loaded : w.refusal ≡ 0 → TablesOf s rows families
   pub shown : w.refusal ≡ 0 → RowsShow reading s rows

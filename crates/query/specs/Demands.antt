@@ -8,8 +8,8 @@ use Rattle.matching.specs.Order as Order
 use Rattle.matching.specs.Order.{choice, Demand}
 use Rattle.matching.specs.Matching.{family_of, request_of}
 use Rattle.query.specs.declared.answer.Offer.{Offer}
-use Rattle.query.specs.declared.answer.Answer.{Answer}
-use Rattle.query.specs.declared.job.Checked.{Checked}
+use Rattle.query.specs.Call.{CallAnswer}
+use Rattle.query.specs.Job.{Checked}
 use Rattle.query.specs.Sizes.{record_size, most_bytes}
 use Rattle.query.specs.Reader.{Refusal, number, refused, got}
 use Rattle.query.specs.Job.{Job, read_job, check_job}
@@ -27,7 +27,7 @@ module _ (reading : ℕ) (job : Job) (k : ℕ) where
   listed = offers_of (view_of reading job) (request_of_job job k)
 
   -- an offer "with its synthesis", and its charmap index
-  abbrev pub offered : Offer → Answer
+  abbrev pub offered : Offer → CallAnswer
   offered o =
       record {
         result = 0;

@@ -1,17 +1,13 @@
 -- Section 6: the entries of a job's four sections, as data and as they are read.
-use Rattle.std.specs.Prelude.{ℕ, Bool, true, false, cond, List, eqb, Float}
+use Rattle.std.specs.Prelude.{ℕ, Bool, true, false, cond, List, eqb, Float, Option, None, Some}
 use Rattle.font.specs.declared.attributes.Angle.{Angle}
 use Rattle.font.specs.declared.attributes.Angle.TheVariants.{Unstated, Degrees}
 use Rattle.font.specs.declared.attributes.FontStyle.{FontStyle}
 use Rattle.font.specs.declared.attributes.FontStyle.TheVariants.{Normal, Italic, Oblique}
 use Rattle.font.specs.declared.attributes.Attributes.{Attributes}
-use Rattle.font.specs.declared.overrides.WidthOverride.{WidthOverride}
-use Rattle.font.specs.declared.overrides.StyleOverride.{StyleOverride}
-use Rattle.font.specs.declared.overrides.WeightOverride.{WeightOverride}
+use Rattle.font.specs.declared.attributes.FontWidth.{FontWidth}
+use Rattle.font.specs.declared.attributes.FontWeight.{FontWeight}
 use Rattle.font.specs.declared.overrides.FontInfoOverride.{FontInfoOverride}
-use Rattle.font.specs.declared.overrides.WidthOverride.TheVariants as Width
-use Rattle.font.specs.declared.overrides.StyleOverride.TheVariants as Style
-use Rattle.font.specs.declared.overrides.WeightOverride.TheVariants as Weight
 use Rattle.font.specs.Attributes.{attributes_of}
 use Rattle.font.specs.StatedAttributes.{bit}
 use Rattle.query.specs.Sizes.{most_places}
@@ -45,30 +41,30 @@ read_style = do
   done (style_of_kind k a)
 
 -- ratio, style and weight by the mask: "Unmasked fields are zero."
-unfoldable pub read_width : Reader WidthOverride
+unfoldable pub read_width : Reader (Option FontWidth)
 read_width = do
   x ← ratio
-  done (Width.Set (record { ratio = x }))
+  done (Some (record { ratio = x }))
 
-unfoldable pub read_weight : Reader WeightOverride
+unfoldable pub read_weight : Reader (Option FontWeight)
 read_weight = do
   x ← value
-  done (Weight.Set (record { value = x }))
+  done (Some (record { value = x }))
 
-unfoldable pub style_or_spare : Bool → Reader StyleOverride
+unfoldable pub style_or_spare : Bool → Reader (Option FontStyle)
 style_or_spare true = do
   x ← read_style
-  done (Style.Set x)
+  done (Some x)
 style_or_spare false = do
   k ← spare_byte
   a ← spare_word
-  done Style.Keep
+  done None
 
 unfoldable pub read_given : ℕ → Reader FontInfoOverride
 read_given m = do
-  width ← or_spare (bit 0 m) Width.Keep read_width
+  width ← or_spare (bit 0 m) None read_width
   style ← style_or_spare (bit 1 m)
-  weight ← or_spare (bit 2 m) Weight.Keep read_weight
+  weight ← or_spare (bit 2 m) None read_weight
   done (record { width = width; style = style; weight = weight })
 
 -- "pairs of tag and value"

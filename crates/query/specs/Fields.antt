@@ -7,7 +7,7 @@ use Rattle.font.specs.Single.{accepted_ratio}
 use Rattle.font.specs.Tables.{u16_at, u32_at}
 use Rattle.font.specs.Collection.{is_collection, header_fits, font_count}
 use Rattle.font.specs.Font.{font_refusal}
-use Rattle.query.specs.declared.fields.At.{At}
+use Rattle.query.specs.Reader.{At}
 use Rattle.query.specs.Reader.{Refusal, past_end, over_limit, not_held, bad_directory, no_charmap, many_axes, no_face, unknown, bad_number, no_font, damaged_table, Reader, refused, got, done, field, tested, many, ◌>>=◌}
 
 -- fields of 1, 2 and 4 bytes

@@ -1,21 +1,13 @@
--- Section 6: what an entry has a run of, an override its pairs and a family its face numbers, as one thing: an item, its reader and its size.
-use Rattle.std.specs.Prelude.{ℕ}
-use Rattle.query.specs.declared.entries.Item.{Item}
-use Rattle.query.specs.declared.entries.Item.TheVariants as Item'
-use Rattle.query.specs.Sizes.{pair_size}
-use Rattle.query.specs.Reader.{Reader}
-use Rattle.query.specs.Fields.{face_number}
-use Rattle.query.specs.Entries.{Pair, read_pair}
+-- Section 6: what an entry has a run of, an override its pairs and a family its face numbers: what reading them one after another gives.
+use Rattle.std.specs.Prelude.{ℕ, zero, suc, ◌≡◌, Result, Ok, Err}
+use Rattle.query.specs.declared.job.Refused.{Refused}
 
--- face numbers are told how many faces the job has
-abbrev pub Value : Item → Type 0
-Value Item'.Pair = Pair
-Value (Item'.FaceNumber faces) = ℕ
+-- the first refusal is the answer, and otherwise the rest follows
+unfoldable pub FollowedBy : (ℕ → Type 0) → Result ℕ Refused → Result ℕ Refused → Type 0
+FollowedBy rest (Err why) result = result ≡ Err why
+FollowedBy rest (Ok next) result = rest next
 
-abbrev pub read_item : (item : Item) → Reader (Value item)
-read_item Item'.Pair = read_pair
-read_item (Item'.FaceNumber faces) = face_number faces
-
-abbrev pub size_of : Item → ℕ
-size_of Item'.Pair = pair_size
-size_of (Item'.FaceNumber faces) = 2
+-- n items from a position on; `Gives p x` says that reading one at p gives x
+unfoldable pub RunsTo : (ℕ → Result ℕ Refused → Type 0) → ℕ → ℕ → Result ℕ Refused → Type 0
+RunsTo Gives zero p result = result ≡ Ok p
+RunsTo Gives (suc n) p result = (x : Result ℕ Refused) × Gives p x × FollowedBy (λ q. RunsTo Gives n q result) x result

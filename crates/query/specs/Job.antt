@@ -1,6 +1,7 @@
 -- Section 6: the job, and the check call's answer.
-use Rattle.std.specs.Prelude.{ℕ, cond, List, [], length, leb, ltb}
-use Rattle.query.specs.declared.job.Checked.{Checked}
+use Rattle.std.specs.Prelude.{ℕ, cond, List, [], length, leb, ltb, Result, Ok, Err}
+use Rattle.font.specs.Refusals as Refusals
+use Rattle.query.specs.declared.job.Refused.{Refused}
 use Rattle.query.specs.Sizes.{most_bytes, most_faces, most_overrides, most_families, most_requests}
 use Rattle.query.specs.Reader.{overlong, bytes_left, number, Got, refused, got, Reader, ◌>>=◌}
 use Rattle.query.specs.Fields.{counted}
@@ -28,6 +29,16 @@ read_sections = do
 -- 17 is "job over 16,777,216 bytes": "Call rows, then the whole job"
 unfoldable pub read_job : List ℕ → Got Job
 read_job s = cond (leb (length s) most_bytes) (read_sections s 0) (refused overlong 0)
+
+-- a refusal's number and its field's position, or 0 and 0
+pub record Checked : Type 0 where
+  pub refusal : ℕ
+  pub position : ℕ
+
+-- so of the code's answer
+unfoldable pub checked_in : {A : Type 0} → Result A Refused → Checked
+checked_in (Ok a) = record { refusal = 0; position = 0 }
+checked_in (Err why) = record { refusal = Refusals.number why.refusal; position = why.position }
 
 -- "the check call, which takes the job alone, adds the field's position (.. 0 for Call ..) and answers 0 and 0 for an accepted job"
 unfoldable pub answer : Got Job → Checked

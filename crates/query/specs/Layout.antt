@@ -1,5 +1,5 @@
 -- Section 6: a job's layout as bytes, and the limits, written from its text and not from the readers.
-use Rattle.std.specs.Prelude.{ℕ, ◌+◌, ◌/◌, ◌%◌, ◌^◌, ◌≤◌, ◌<◌, ◌≡◌, Bool, true, false, cond, List, [], ◌∷◌, ◌++◌, length, get_or, T, Float}
+use Rattle.std.specs.Prelude.{ℕ, ◌+◌, ◌/◌, ◌%◌, ◌^◌, ◌≤◌, ◌<◌, ◌≡◌, Bool, true, false, cond, List, [], ◌∷◌, ◌++◌, length, get_or, T, Float, Option, None, Some}
 use Rattle.std.specs.Float.{binary32}
 use Rattle.std.specs.Float.Ieee.{to_bits, fits}
 use Rattle.std.specs.Float.Ieee.Scale.{finite}
@@ -8,13 +8,9 @@ use Rattle.font.specs.declared.attributes.Angle.TheVariants.{Unstated, Degrees}
 use Rattle.font.specs.declared.attributes.FontStyle.{FontStyle}
 use Rattle.font.specs.declared.attributes.FontStyle.TheVariants.{Normal, Italic, Oblique}
 use Rattle.font.specs.declared.attributes.Attributes.{Attributes}
-use Rattle.font.specs.declared.overrides.WidthOverride.{WidthOverride}
-use Rattle.font.specs.declared.overrides.StyleOverride.{StyleOverride}
-use Rattle.font.specs.declared.overrides.WeightOverride.{WeightOverride}
+use Rattle.font.specs.declared.attributes.FontWidth.{FontWidth}
+use Rattle.font.specs.declared.attributes.FontWeight.{FontWeight}
 use Rattle.font.specs.declared.overrides.FontInfoOverride.{FontInfoOverride}
-use Rattle.font.specs.declared.overrides.WidthOverride.TheVariants as Width
-use Rattle.font.specs.declared.overrides.StyleOverride.TheVariants as Style
-use Rattle.font.specs.declared.overrides.WeightOverride.TheVariants as Weight
 use Rattle.font.specs.Single.{accepted_ratio}
 use Rattle.font.specs.Collection.{is_collection}
 use Rattle.font.specs.Font.{font_refusal}
@@ -86,32 +82,32 @@ unfoldable pub layout_style : FontStyle → List ℕ
 layout_style t = bytes8 (kind_of t) ++ layout_angle (angle_of t)
 
 -- "mask byte (1 width, 2 style, 4 weight), ratio, style, weight .. Unmasked fields are zero."
-unfoldable pub gives_width : WidthOverride → Bool
-gives_width Width.Keep = false
-gives_width (Width.Set w) = true
+unfoldable pub gives_width : Option FontWidth → Bool
+gives_width None = false
+gives_width (Some w) = true
 
-unfoldable pub gives_style : StyleOverride → Bool
-gives_style Style.Keep = false
-gives_style (Style.Set t) = true
+unfoldable pub gives_style : Option FontStyle → Bool
+gives_style None = false
+gives_style (Some t) = true
 
-unfoldable pub gives_weight : WeightOverride → Bool
-gives_weight Weight.Keep = false
-gives_weight (Weight.Set w) = true
+unfoldable pub gives_weight : Option FontWeight → Bool
+gives_weight None = false
+gives_weight (Some w) = true
 
 unfoldable pub mask_of : FontInfoOverride → ℕ
 mask_of o = cond (gives_width o.width) 1 0 + (cond (gives_style o.style) 2 0 + cond (gives_weight o.weight) 4 0)
 
-unfoldable pub layout_width : WidthOverride → List ℕ
-layout_width Width.Keep = bytes32 0
-layout_width (Width.Set w) = bytes_of w.ratio
+unfoldable pub layout_width : Option FontWidth → List ℕ
+layout_width None = bytes32 0
+layout_width (Some w) = bytes_of w.ratio
 
-unfoldable pub layout_style_given : StyleOverride → List ℕ
-layout_style_given Style.Keep = bytes8 0 ++ bytes32 0
-layout_style_given (Style.Set t) = layout_style t
+unfoldable pub layout_style_given : Option FontStyle → List ℕ
+layout_style_given None = bytes8 0 ++ bytes32 0
+layout_style_given (Some t) = layout_style t
 
-unfoldable pub layout_weight : WeightOverride → List ℕ
-layout_weight Weight.Keep = bytes32 0
-layout_weight (Weight.Set w) = bytes_of w.value
+unfoldable pub layout_weight : Option FontWeight → List ℕ
+layout_weight None = bytes32 0
+layout_weight (Some w) = bytes_of w.value
 
 unfoldable pub layout_given : FontInfoOverride → List ℕ
 layout_given o = layout_width o.width ++ (layout_style_given o.style ++ layout_weight o.weight)
@@ -186,17 +182,17 @@ AngleFits (Degrees x) = IsValue x
 abbrev pub StyleFits : FontStyle → Type 0
 StyleFits t = AngleFits (angle_of t)
 
-unfoldable pub WidthFits : WidthOverride → Type 0
-WidthFits Width.Keep = Unit {0}
-WidthFits (Width.Set w) = IsRatio w.ratio
+unfoldable pub WidthFits : Option FontWidth → Type 0
+WidthFits None = Unit {0}
+WidthFits (Some w) = IsRatio w.ratio
 
-unfoldable pub StyleGivenFits : StyleOverride → Type 0
-StyleGivenFits Style.Keep = Unit {0}
-StyleGivenFits (Style.Set t) = StyleFits t
+unfoldable pub StyleGivenFits : Option FontStyle → Type 0
+StyleGivenFits None = Unit {0}
+StyleGivenFits (Some t) = StyleFits t
 
-unfoldable pub WeightFits : WeightOverride → Type 0
-WeightFits Weight.Keep = Unit {0}
-WeightFits (Weight.Set w) = IsValue w.value
+unfoldable pub WeightFits : Option FontWeight → Type 0
+WeightFits None = Unit {0}
+WeightFits (Some w) = IsValue w.value
 
 pub record PairFits (x : Pair) : Type 0 where
   pub tag : Fits32 x.tag

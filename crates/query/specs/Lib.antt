@@ -21,3 +21,4 @@ pub mod Positions
 pub mod Values
 pub mod CallTables
 pub mod Listed
+pub mod Search

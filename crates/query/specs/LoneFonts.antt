@@ -3,7 +3,7 @@
 use Rattle.std.specs.Prelude.{ℕ, ◌≡◌, List, [], ◌∷◌, get_or, take, drop}
 use Rattle.font.specs.LookedAt.{SameFont, MovedWithCmap}
 use Rattle.query.specs.declared.answer.Offer.{Offer}
-use Rattle.query.specs.declared.answer.Answer.{Answer}
+use Rattle.query.specs.Call.{CallAnswer}
 use Rattle.query.specs.Fields.{NumberedFont}
 use Rattle.query.specs.Entries.{Face}
 use Rattle.query.specs.Job.{Job}
@@ -36,7 +36,7 @@ unfoldable pub font_of_offer : Job → Offer → NumberedFont
 font_of_offer job o = (entry_of job.faces (get_or (get_or (families_of job) o.family []) o.place 0)).font
 
 -- one answer, but for the `cmap` offset, which differs as the places do where the `cmap` of the two fonts lies
-pub record AnswersAlike (i j : Job) (a b : Answer) : Type 0 where
+pub record AnswersAlike (i j : Job) (a b : CallAnswer) : Type 0 where
   pub result : a.result ≡ b.result
   pub offer : a.offer ≡ b.offer
   pub synthesis : a.synthesis ≡ b.synthesis

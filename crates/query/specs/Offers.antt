@@ -1,15 +1,13 @@
 -- Section 6: the offers of a request.
-use Rattle.std.specs.Prelude.{ℕ, zero, suc, Bool, true, false, not, ◌&&◌, ◌||◌, cond, List, [], ◌∷◌, ◌++◌, map, ltb, eqb, length, get_or, take}
+use Rattle.std.specs.Prelude.{ℕ, zero, suc, Bool, true, false, not, ◌&&◌, ◌||◌, cond, List, [], ◌∷◌, ◌++◌, map, ltb, eqb, length, get_or, take, Option, None, Some}
 use Rattle.font.specs.declared.font.FontInfo.{FontInfo}
 use Rattle.matching.specs.declared.order.Request.{Request}
-use Rattle.matching.specs.declared.synthesis.Synthesis.{Synthesis}
+use Rattle.matching.specs.Synthesis.{SynthesisAnswer}
 use Rattle.matching.specs.Order as Order
 use Rattle.matching.specs.Order.{choice, equal_places}
 use Rattle.matching.specs.Matching.{family_of, request_of, default_place}
 use Rattle.matching.specs.Synthesis.{synthesized, varies_of}
 use Rattle.query.specs.declared.answer.Offer.{Offer}
-use Rattle.query.specs.declared.offers.Offered.{Offered}
-use Rattle.query.specs.declared.offers.Offered.TheVariants as Offered'
 use Rattle.query.specs.Entries as Entries
 use Rattle.query.specs.View.{View}
 
@@ -77,7 +75,7 @@ module _ (view : View) where
   face_of_offer o = view.font (get_or (members_of o.family) o.place 0)
 
   -- an offer's synthesis: section 5 on the face and the request, under a reading
-  unfoldable pub synthesis_of_offer : ℕ → Entries.Request → Offer → Synthesis
+  unfoldable pub synthesis_of_offer : ℕ → Entries.Request → Offer → SynthesisAnswer
   synthesis_of_offer reading r o = synthesized reading (face_of_offer o).attributes (varies_of (face_of_offer o)) r.attributes
 
   -- "an unknown number is skipped"
@@ -89,5 +87,5 @@ module _ (view : View) where
   offers_of r = offers (number_offers (request_of r.attributes true)) r.most r.families r.fallbacks
 
 -- "An offer call .. answers the offer of the number asked for .., or, exactly where the list has no such offer, that it lies past the list."
-unfoldable pub offer_at : List Offer → ℕ → Offered
-offer_at = pick Offered'.At (λ k. Offered'.Past)
+unfoldable pub offer_at : List Offer → ℕ → (Option Offer)
+offer_at = pick Some (λ k. None)

@@ -1,14 +1,14 @@
 -- Where the entries of an accepted job begin, as the steps of a call hand it on. No promise to a user cites this.
-use Rattle.std.specs.Prelude.{ℕ, ◌+◌, ◌-◌, ◌≤◌, ◌<◌, ◌≡◌, List, length, get_or}
-use Rattle.query.specs.declared.fields.At.{At}
+use Rattle.std.specs.Prelude.{ℕ, ◌+◌, ◌-◌, ◌≤◌, ◌<◌, ◌≡◌, List, length, get_or, Result, Ok, Err}
+use Rattle.query.specs.declared.job.Refused.{Refused}
 use Rattle.query.specs.declared.job.Walked.{Walked}
-use Rattle.query.specs.declared.sections.Section.{Section}
+use Rattle.font.specs.Refusals as Refusals
 use Rattle.query.specs.Sizes.{most_overrides, most_requests}
-use Rattle.query.specs.Reader.{Reader, got, many, ended, ◌>>=◌}
+use Rattle.query.specs.Reader.{Reader, got, many, ended, end_in, ◌>>=◌}
 use Rattle.query.specs.Fields.{counted}
 use Rattle.query.specs.Entries.{Request, read_override, read_family, read_request}
-use Rattle.query.specs.Sections.{Entry, read_entry, limit_of}
-use Rattle.query.specs.Job.{Job, at_end, read_sections, check_job, job_of}
+use Rattle.query.specs.Sections.{Section, Entry, read_entry, limit_of}
+use Rattle.query.specs.Job.{Job, Checked, at_end, read_sections, answer, check_job, job_of}
 
 -- an entry lies where its reader reads it
 pub record LiesAt {A : Type 0} (r : Reader A) (s : List ℕ) (p : ℕ) (a : A) : Type 0 where
@@ -40,34 +40,62 @@ pub record NotedSection (section : Section) (s : List ℕ) (at first : ℕ) (bef
   pub noted : (xs : List (Entry section)) (q : ℕ) → counted (limit_of section) (read_entry section) s at ≡ got xs q → Noted (read_entry section) s xs first after
   pub kept : (xs : List (Entry section)) (q : ℕ) → counted (limit_of section) (read_entry section) s at ≡ got xs q → KeptFrom (length xs - first) before after
 
+-- a step reads the section's entries
+abbrev pub ReadsAs : Section → List ℕ → (ℕ → Result ℕ Refused → Type 0) → Type 0
+ReadsAs section s Gives = (p : ℕ) (x : Result ℕ Refused) → Gives p x → end_in x ≡ ended (read_entry section s p)
+
+-- how the section's entries end, and what is noted of them
+pub record RunEnds (section : Section) (s : List ℕ) (at count first : ℕ) (result : Result ℕ Refused) (after : List ℕ) : Type 0 where
+  pub value : end_in result ≡ ended (many count (read_entry section) s at)
+  pub noted : NotedRun (read_entry section) s at count first after
+
+-- and so of the section
+pub record SectionEnds (section : Section) (s : List ℕ) (at first : ℕ) (result : Result ℕ Refused) (before after : List ℕ) : Type 0 where
+  pub value : end_in result ≡ ended (counted (limit_of section) (read_entry section) s at)
+  pub noted : NotedSection section s at first before after
+
 -- ---- the walk through a job
 
--- how a walk ended, as an entry's end
-abbrev pub end_of : Walked → At
-end_of w = record { refusal = w.refusal; at = w.position }
+-- how a walk ended: a refusal's number and its field's position; and of an accepted job where its overrides begin, how many requests it has, and where the
+-- asked one begins
+pub record WalkEnd : Type 0 where
+  pub refusal : ℕ
+  pub position : ℕ
+  pub overrides : ℕ
+  pub requests : ℕ
+  pub request : ℕ
+
+-- so of the code's answer
+unfoldable pub walk_in : Result Walked Refused → WalkEnd
+walk_in (Ok w) = record { refusal = 0; position = 0; overrides = w.overrides; requests = w.requests; request = w.request }
+walk_in (Err why) = record { refusal = Refusals.number why.refusal; position = why.position; overrides = 0; requests = 0; request = 0 }
+
+-- how a walk ended, as the check call says it
+abbrev pub checked_end : WalkEnd → Checked
+checked_end w = record { refusal = w.refusal; position = w.position }
 
 -- the requests, which end the job, whatever is made of them
-pub record Requested (s : List ℕ) (at asked : ℕ) (w : Walked) : Type 0 where
-  pub end : (job : List Request → Job) → end_of w ≡ ended ((counted most_requests read_request >>= λ rs. at_end (job rs)) s at)
+pub record Requested (s : List ℕ) (at asked : ℕ) (w : WalkEnd) : Type 0 where
+  pub end : (job : List Request → Job) → checked_end w ≡ answer ((counted most_requests read_request >>= λ rs. at_end (job rs)) s at)
   pub count : (rs : List Request) (q : ℕ) → w.refusal ≡ 0 → counted most_requests read_request s at ≡ got rs q → w.requests ≡ length rs
   pub place : (rs : List Request) (q : ℕ) (d : Request) → w.refusal ≡ 0 → counted most_requests read_request s at ≡ got rs q → asked < length rs
       → LiesAt read_request s w.request (get_or rs asked d)
 
 -- where the section of overrides and the families of a job begin, how many requests it has, and where the asked one begins
-pub record Begins (s : List ℕ) (job : Job) (w : Walked) (families : List ℕ) (asked : ℕ) : Type 0 where
+pub record Begins (s : List ℕ) (job : Job) (w : WalkEnd) (families : List ℕ) (asked : ℕ) : Type 0 where
   pub override : LiesAt (counted most_overrides (read_override (length job.faces))) s w.overrides job.overrides
   pub family : Noted (read_family (length job.faces)) s job.families 0 families
   pub requests : w.requests ≡ length job.requests
   pub request : (d : Request) → asked < length job.requests → LiesAt read_request s w.request (get_or job.requests asked d)
 
 -- the four sections
-pub record SectionsAnswer (s : List ℕ) (w : Walked) (before families : List ℕ) (asked : ℕ) : Type 0 where
-  pub end : end_of w ≡ ended (read_sections s 0)
+pub record SectionsAnswer (s : List ℕ) (w : WalkEnd) (before families : List ℕ) (asked : ℕ) : Type 0 where
+  pub end : checked_end w ≡ answer (read_sections s 0)
   pub begins : (job : Job) (q : ℕ) → read_sections s 0 ≡ got job q → Begins s job w families asked
   pub kept : (job : Job) (q : ℕ) → read_sections s 0 ≡ got job q → KeptFrom (length job.families) before families
 
 -- the check call's answer; and of an accepted job where its entries begin, and that the table of families is as it was past them
-pub record WalkAnswer (s : List ℕ) (w : Walked) (before families : List ℕ) (asked : ℕ) : Type 0 where
-  pub checked : record { refusal = w.refusal; position = w.position } ≡ check_job s
+pub record WalkAnswer (s : List ℕ) (w : WalkEnd) (before families : List ℕ) (asked : ℕ) : Type 0 where
+  pub checked : checked_end w ≡ check_job s
   pub begins : w.refusal ≡ 0 → Begins s (job_of s) w families asked
   pub kept : w.refusal ≡ 0 → KeptFrom (length (job_of s).families) before families

@@ -1,7 +1,8 @@
 -- Section 6: "First met, reading left to right". A reader takes the bytes of a job and a position, and answers the refusal that it meets, with
 -- the position of the field, or a value and the next position. A font of a collection can be refused at its length field after its number was read.
-use Rattle.std.specs.Prelude.{ℕ, zero, suc, ◌+◌, Bool, cond, List, [], ◌∷◌, length, leb}
-use Rattle.query.specs.declared.fields.At.{At}
+use Rattle.std.specs.Prelude.{ℕ, zero, suc, ◌+◌, Bool, cond, List, [], ◌∷◌, length, leb, Result, Ok, Err}
+use Rattle.font.specs.Refusals as Refusals
+use Rattle.query.specs.declared.job.Refused.{Refused}
 
 infixl 20 ◌>>=◌
 -- the rows of the table that a job alone can meet: 17 to 27, 30 and 31
@@ -56,6 +57,16 @@ tested why ok r s p = onward (r s p) (λ a q. cond (ok a) (got a q) (refused why
 unfoldable pub many : {A : Type 0} → ℕ → Reader A → Reader (List A)
 many zero r = done []
 many (suc n) r = r >>= λ a. many n r >>= λ rest. done (a ∷ rest)
+
+-- a refusal's number and its field's position, or 0 and the next position
+pub record At : Type 0 where
+  pub refusal : ℕ
+  pub at : ℕ
+
+-- so of the code's answer
+unfoldable pub end_in : Result ℕ Refused → At
+end_in (Ok next) = record { refusal = 0; at = next }
+end_in (Err why) = record { refusal = Refusals.number why.refusal; at = why.position }
 
 -- how a reader ended: the refusal and its field's position, or 0 and the next position
 unfoldable pub ended : {A : Type 0} → Got A → At

@@ -3,7 +3,7 @@ use Rattle.std.specs.Prelude.{ℕ, ◌-◌, ◌<◌, ◌≡◌, Bool, true, fals
 use Rattle.std.specs.Float.{nan, binary32}
 use Rattle.std.specs.Float.Ieee.{to_bits, is_nan}
 use Rattle.font.specs.declared.charmap.CharmapIndex.{CharmapIndex}
-use Rattle.matching.specs.declared.synthesis.Synthesis.{Synthesis}
+use Rattle.matching.specs.Synthesis.{SynthesisAnswer}
 use Rattle.query.specs.declared.answer.Offer.{Offer}
 use Rattle.query.specs.Layout.{bytes16, bytes32}
 
@@ -35,10 +35,10 @@ index_bytes index =
     bytes32 index.subtable_offset ++ (flag index.is_symbol ∷ flag index.is_mac_roman ∷ 0 ∷ 0 ∷ [])
 
 -- no setting is a NaN, which has no bits of its own; every offer keeps to this (proofs/AnswerCases.antt)
-abbrev pub Numbers : Synthesis → Type 0
+abbrev pub Numbers : SynthesisAnswer → Type 0
 Numbers s = (i : ℕ) → i < s.len → is_nan (get_or s.values i nan) ≡ false
 
-unfoldable pub record_bytes : Offer → Synthesis → CharmapIndex → List ℕ
+unfoldable pub record_bytes : Offer → SynthesisAnswer → CharmapIndex → List ℕ
 record_bytes offer s index =
     head_bytes offer s.embolden s.skew s.len
     ++ (slot_at s.len s.tags s.values 0

@@ -1,13 +1,12 @@
 -- "The order and list of 01 hold under the new reading with the negated numbers": under reading 1 the offers of a job are section 6's list for the faces whose
 -- stated angles, as their files give them, are negated; and reading 0 is section 6 as it stood. Proved in proofs/TwoReadings.antt.
-use Rattle.std.specs.Prelude.{ℕ, zero, suc, ◌≡◌, cond, List, [], ◌∷◌, map, ltb, eqb, length}
+use Rattle.std.specs.Prelude.{ℕ, zero, suc, ◌≡◌, cond, List, [], ◌∷◌, map, ltb, eqb, length, None, Some}
 use Rattle.font.specs.Slant.{opposite_face}
 use Rattle.font.specs.Font.{from_font_ref}
 use Rattle.matching.specs.Matching.{family_of}
 use Rattle.matching.specs.Synthesis.{synthesized, varies_of, opposite_slant}
 use Rattle.query.specs.declared.answer.Offer.{Offer}
-use Rattle.query.specs.declared.answer.Answer.{Answer}
-use Rattle.query.specs.declared.offers.Offered.TheVariants.{At, Past}
+use Rattle.query.specs.Call.{CallAnswer}
 use Rattle.query.specs.declared.cursor.Cursor.{Cursor}
 use Rattle.query.specs.Sizes.{record_size}
 use Rattle.query.specs.Reader.{Refusal, number, refused, got}
@@ -26,7 +25,7 @@ unfoldable pub opposite_view : Job → View
 opposite_view job = view_by (λ (f : NumberedFont). opposite_face (stated_by 0 f)) job
 
 -- an answer of reading 0 with the value of `slnt` negated
-unfoldable pub opposite_answer : Answer → Answer
+unfoldable pub opposite_answer : CallAnswer → CallAnswer
 opposite_answer a =
     record {
       result = a.result;
@@ -49,8 +48,8 @@ pub record Old : Type 0 where
   pub synthesis : (view : View) (r : Request) (o : Offer)
       → synthesis_of_offer view 0 r o ≡ synthesized 0 (face_of_offer view o).attributes (varies_of (face_of_offer view o)) r.attributes
   pub offer : (view : View) (r : Request) (o : Offer)
-      → answered 0 view r (At o) ≡ with_synthesis o (synthesis_of_offer view 0 r o) (face_of_offer view o).charmap_index
-  pub past : (view : View) (r : Request) → answered 0 view r Past ≡ without_offer 1
+      → answered 0 view r (Some o) ≡ with_synthesis o (synthesis_of_offer view 0 r o) (face_of_offer view o).charmap_index
+  pub past : (view : View) (r : Request) → answered 0 view r None ≡ without_offer 1
   -- of a request, and of any bytes
   pub request : (job : Job) (k n : ℕ)
       → request_answer 0 job k n

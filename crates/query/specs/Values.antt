@@ -1,5 +1,5 @@
 -- Section 6: what stands at a position of an accepted job, as the code reads it there. No promise to a user cites this.
-use Rattle.std.specs.Prelude.{ℕ, ◌+◌, ◌*◌, cond, List, eqb, Float, get_or, take, drop}
+use Rattle.std.specs.Prelude.{ℕ, ◌+◌, ◌*◌, cond, List, eqb, Float, get_or, take, drop, None, Some}
 use Rattle.std.specs.Float.{binary32}
 use Rattle.std.specs.Float.Ieee.{of_bits}
 use Rattle.std.specs.Float.Ieee.Scale.{finite}
@@ -13,9 +13,6 @@ use Rattle.font.specs.declared.attributes.Angle.TheVariants.{Unstated, Degrees}
 use Rattle.font.specs.declared.attributes.FontStyle.{FontStyle}
 use Rattle.font.specs.declared.attributes.Attributes.{Attributes}
 use Rattle.font.specs.declared.overrides.FontInfoOverride.{FontInfoOverride}
-use Rattle.font.specs.declared.overrides.WidthOverride.TheVariants as Width
-use Rattle.font.specs.declared.overrides.StyleOverride.TheVariants as Style
-use Rattle.font.specs.declared.overrides.WeightOverride.TheVariants as Weight
 use Rattle.query.specs.declared.fields.Behind.{Behind}
 use Rattle.query.specs.Sizes.{face_head, font_number_size, override_mask, override_ratio, override_style, override_weight, override_count, override_head, pair_size, request_attributes, attributes_style, attributes_weight, request_head}
 use Rattle.query.specs.Entries.{style_of_kind, Face, Pair, Override, Request}
@@ -62,9 +59,9 @@ face_end s p = behind_number (file_at s p) (file_end s p)
 unfoldable pub given_at : List ℕ → ℕ → FontInfoOverride
 given_at s p =
     record {
-      width = cond (bit 0 (get_or s (p + override_mask) 0)) (Width.Set (record { ratio = number_at s (p + override_ratio) })) Width.Keep;
-      style = cond (bit 1 (get_or s (p + override_mask) 0)) (Style.Set (style_at s (p + override_style))) Style.Keep;
-      weight = cond (bit 2 (get_or s (p + override_mask) 0)) (Weight.Set (record { value = number_at s (p + override_weight) })) Weight.Keep;
+      width = cond (bit 0 (get_or s (p + override_mask) 0)) (Some (record { ratio = number_at s (p + override_ratio) })) None;
+      style = cond (bit 1 (get_or s (p + override_mask) 0)) (Some (style_at s (p + override_style))) None;
+      weight = cond (bit 2 (get_or s (p + override_mask) 0)) (Some (record { value = number_at s (p + override_weight) })) None;
     }
 
 unfoldable pub pair_at : List ℕ → ℕ → Pair

@@ -9,10 +9,9 @@ pub struct Offer {
     pub place: u16,
 }
 
-// 0 and the offer with its synthesis and charmap index, 1 past the list, or a refusal. Beside all but 0 stand zeros.
+// An offer with its synthesis and charmap index.
 #[derive(Clone, Copy)]
 pub struct Answer {
-    pub result: u32,
     pub offer: Offer,
     pub synthesis: Synthesis,
     pub charmap_index: CharmapIndex,

@@ -1,118 +1,42 @@
 // The offer call.
-ghost use Rattle.std.specs.Prelude.{◌≡◌, true, cond, ◌≤◌, ◌<◌, leb, length};
-ghost use Rattle.font.specs.Slant.{is_reading};
-ghost use Rattle.font.specs.Tables.{u16_at};
+ghost use Rattle.std.specs.Prelude.{◌≡◌, ◌≤◌, ◌<◌, length};
+ghost use Rattle.font.specs.Slant.{reading_number};
 ghost use Rattle.matching.specs.Synthesis.{synthesized, varies_of};
-ghost use Rattle.query.specs.Sizes.{few_faces, most_bytes};
+ghost use Rattle.query.specs.Sizes.{most_faces};
+ghost use Rattle.query.specs.Job.{job_of};
 ghost use Rattle.query.specs.CallTables.{Room, TablesOf, Uncounted};
-ghost use Rattle.query.specs.Listed.{SectionIn, Names, Readable, Locates, SearchAnswer, LeadsTo, LeadsByRows};
-ghost use Rattle.query.specs.Call.{without_offer, with_synthesis, answer_call, offer_call, Calls};
+ghost use Rattle.query.specs.Listed.{SectionIn, Readable, SearchAnswer, LeadsTo, LeadsByRows, search_in};
+ghost use Rattle.query.specs.Call.{with_synthesis, answer_in, map_ok, answer_call, ReadingOver, offer_call, result_in, Calls};
 ghost use Rattle.query.specs.Demands.{Demands};
 
 use crate::answer::{Answer, Offer};
-use crate::fields::wide;
 use crate::job::Walked;
-use crate::offers::Offered;
-use crate::{faces, loading, offers, record, sizes, values};
+use crate::offers::{Found, Search};
+use crate::{faces, loading, record, sizes, values};
 use font::attributes::Attributes;
-use font::charmap::CharmapIndex;
 use font::font::FontInfo;
-use font::{slant, tables};
+use font::refusal::Refusal;
+use font::slant::Reading;
+use font::tables;
 use matching::matching::request_of;
-use matching::rows::{COLUMNS, MARKS, Row};
-use matching::synthesis::Synthesis;
+use matching::rows::Row;
 use matching::{face, synthesis};
 
-fn without_offer(res: u32) -> Answer
-    ensures { result ≡ without_offer res }
-{
-    Answer {
-        result: res,
-        offer: Offer {
-            family: 0,
-            place: 0,
-        },
-        synthesis: Synthesis::unvaried(0, false, 0),
-        charmap_index: CharmapIndex {
-            subtable_offset: 0,
-            is_symbol: false,
-            is_mac_roman: false,
-        },
-    }
-}
-
 // The answer with an offer, from its face and the request's attributes, under a reading.
-fn with_synthesis(offer: Offer, font: FontInfo, reading: u32, wanted: Attributes) -> Answer
-    requires { is_reading reading ≡ true }
-    ensures { result ≡ with_synthesis offer (synthesized reading font.attributes (varies_of font) wanted) font.charmap_index }
-{
-    let attributes = font.attributes;
-    let made = synthesis::synthesize(attributes, face::varies(font), reading, wanted);
-    if made.refusal == 29 {
-        return without_offer(29);
-    }
-    let charmap_index = font.charmap_index;
-    Answer {
-        result: 0,
-        offer,
-        synthesis: made,
-        charmap_index,
-    }
-}
-
-// What the search for an offer gives: 0 and the offer, with its face's number, where that face's entry and the overrides
-// lie, and the request's attributes; else the result alone.
-#[derive(Clone, Copy)]
-pub(crate) struct SearchResult {
-    pub result: u32,
-    pub offer: Offer,
-    pub number: usize,
-    pub entry: usize,
-    pub section: usize,
-    pub wanted: Attributes,
-}
-
-fn no_offer(res: u32) -> SearchResult
-    ensures { result.result ≡ res }
-{
-    SearchResult {
-        result: res,
-        offer: Offer {
-            family: 0,
-            place: 0,
-        },
-        number: 0,
-        entry: 0,
-        section: 0,
-        wanted: Attributes::DEFAULT,
-    }
-}
-
-// An offer with where its face lies. The section of the overrides lies at `section`.
-fn place_of_face(
-    job: &[u8],
-    section: usize,
-    rows: &[Row],
-    families: &[u32; 64],
+fn with_synthesis(
     offer: Offer,
+    font: FontInfo,
+    reading: Reading,
     wanted: Attributes,
-) -> SearchResult
-    requires tables_of { TablesOf job.now rows.now families.now × SectionIn job.now section }
-    requires names { Names job.now offer }
-    ensures { Locates job.now offer wanted result }
+) -> Result<Answer, Refusal>
+    ensures { answer_in (map_ok Some result) ≡ with_synthesis offer (synthesized (reading_number reading) font.attributes (varies_of font) wanted) font.charmap_index }
 {
-    let family = offer.family as usize;
-    let at = wide(families[family] % loading::COUNT_STEP);
-    let number = tables::u16_at(job, at + 2 + 2 * (offer.place as usize)) as usize;
-    let entry = wide(rows[number][MARKS] / 4);
-    SearchResult {
-        result: 0,
+    let synthesis = synthesis::synthesize(font.attributes, face::varies(font), reading, wanted)?;
+    Ok(Answer {
         offer,
-        number,
-        entry,
-        section,
-        wanted,
-    }
+        synthesis,
+        charmap_index: font.charmap_index,
+    })
 }
 
 // The search in the request that an accepted job was loaded for, under the reading that its rows are of.
@@ -122,115 +46,121 @@ fn search_request(
     rows: &[Row],
     families: &mut [u32; 64],
     n: usize,
-) -> SearchResult
+) -> Option<Found>
     requires tables_of { TablesOf job.now rows.now families.old × Uncounted families.old × SectionIn job.now walked.overrides }
     requires request_in_bounds { walked.request < length job.now }
-    ensures { LeadsByRows job.now rows.now walked.request n result }
+    ensures { LeadsByRows job.now rows.now walked.request n (search_in (Ok result)) }
 {
     let at = walked.request;
     let wanted = values::attributes_at(job, at + sizes::REQUEST_ATTRIBUTES);
-    match offers::request_offer(job, at, rows, &mut *families, request_of(wanted, true), n) {
-        Offered::At(offer) => place_of_face(job, walked.overrides, rows, families, offer, wanted),
-        Offered::Past => no_offer(1),
-    }
+    let request = request_of(wanted, true);
+    let mut search = Search {
+        job,
+        rows,
+        families,
+        request,
+    };
+    let offer = search.request_offer(at, n)?;
+    Some(search.place_of_face(walked.overrides, offer, wanted))
 }
 
 // The search for a request and an offer number, with room for the rows of the job's faces.
 fn search_with(
     job: &[u8],
-    reading: u32,
+    reading: Reading,
     rows: &mut [Row],
     request: u32,
     number: u32,
-) -> SearchResult
-    requires { (is_reading reading ≡ true) × Room job.now rows.old }
-    ensures { LeadsTo reading job.now (answer_call job.now reading request number) result }
+) -> Result<Option<Found>, Refusal>
+    requires { Room job.now rows.old }
+    ensures { LeadsTo (reading_number reading) job.now (answer_call job.now (reading_number reading) request number) (search_in result) }
 {
     let mut families = [loading::NOWHERE; 64];
-    let walked = loading::load(job, reading, &mut *rows, &mut families, request as usize);
-    if walked.refusal != 0 {
-        return no_offer(walked.refusal as u32);
+    match loading::load(job, reading, &mut *rows, &mut families, request as usize) {
+        Err(refused) => Err(refused.refusal),
+        Ok(walked) => {
+            if (request as usize) < walked.requests {
+                Ok(search_request(job, walked, rows, &mut families, number as usize))
+            } else {
+                Err(Refusal::NoRequest)
+            }
+        }
     }
-    if (request as usize) < walked.requests {
-        return search_request(job, walked, rows, &mut families, number as usize);
-    }
-    no_offer(28)
 }
 
 // The answer of a search. The face is read in a frame of its own, when those of the search are gone.
-fn answer_found(job: &[u8], reading: u32, found: SearchResult) -> Answer
-    requires { (is_reading reading ≡ true) × (found.result ≡ 0 → Readable job.now found) }
-    ensures { SearchAnswer reading job.now found result }
+fn answer_found(job: &[u8], reading: Reading, found: Found) -> Result<Answer, Refusal>
+    requires { Readable job.now (search_in (Ok (Some found))) }
+    ensures { SearchAnswer (reading_number reading) job.now (search_in (Ok (Some found))) (answer_in (map_ok Some result)) }
 {
-    if found.result != 0 {
-        return without_offer(found.result);
-    }
     let font = faces::offered_face(job, reading, found.section, found.entry, found.number);
-    let offer = found.offer;
-    let wanted = found.wanted;
-    with_synthesis(offer, font, reading, wanted)
+    with_synthesis(found.offer, font, reading, found.wanted)
 }
 
-// The answer where the job has few faces, whose rows are soon cleared.
-fn answer_few(job: &[u8], reading: u32, request: u32, number: u32) -> Answer
-    requires { (is_reading reading ≡ true) × (u16_at job.now 0 ≤ few_faces) }
-    ensures { result ≡ answer_call job.now reading request number }
+// The answer with so many rows for the job's faces: a job of few faces has its rows soon cleared.
+fn answer_with<const N: usize>(
+    job: &[u8],
+    reading: Reading,
+    request: u32,
+    number: u32,
+) -> Result<Option<Answer>, Refusal>
+    requires { (length (job_of job.now).faces ≤ N) × (N ≤ most_faces) }
+    ensures { answer_in result ≡ answer_call job.now (reading_number reading) request number }
 {
-    let mut rows = [[0u32; COLUMNS]; 64];
-    answer_found(
-        job,
-        reading,
-        search_with(job, reading, &mut rows, request, number),
-    )
-}
-
-fn answer_many(job: &[u8], reading: u32, request: u32, number: u32) -> Answer
-    requires { is_reading reading ≡ true }
-    ensures { result ≡ answer_call job.now reading request number }
-{
-    let mut rows = [[0u32; COLUMNS]; 256];
-    answer_found(
-        job,
-        reading,
-        search_with(job, reading, &mut rows, request, number),
-    )
-}
-
-// The answer where there is no such reading: 25, unless the job is too long.
-fn no_reading(job: &[u8]) -> Answer
-    ensures { result ≡ without_offer (cond (leb (length job.now) most_bytes) 25 17) }
-{
-    if job.len() <= sizes::MOST_BYTES {
-        return without_offer(25);
+    let mut rows = [Row::BLANK; N];
+    match search_with(job, reading, &mut rows, request, number)? {
+        None => Ok(None),
+        Some(found) => Ok(Some(answer_found(job, reading, found)?)),
     }
-    without_offer(17)
 }
 
-// The answer to a request and an offer number, under a reading.
-pub fn offer_at(job: &[u8], reading: u32, request: u32, number: u32) -> Answer
-    ensures { result ≡ answer_call job.now reading request number }
+// The reading of a number. Where there is none, that is the refusal unless the job is too long.
+fn reading_over(job: &[u8], reading: u32) -> Result<Reading, Refusal>
+    ensures { ReadingOver job.now reading result }
 {
-    if !slant::is_reading(reading) {
-        return no_reading(job);
+    let known = Reading::try_from(reading);
+    if known.is_err() && sizes::MOST_BYTES < job.len() {
+        return Err(Refusal::Overlong);
     }
+    known
+}
+
+// The answer to a request and an offer number, under a reading: an offer, or none past the list.
+pub fn offer_at(
+    job: &[u8],
+    reading: u32,
+    request: u32,
+    number: u32,
+) -> Result<Option<Answer>, Refusal>
+    ensures { answer_in result ≡ answer_call job.now reading request number }
+{
+    let reading = reading_over(job, reading)?;
     if tables::u16_at(job, 0) <= sizes::FEW_FACES {
-        return answer_few(job, reading, request, number);
+        answer_with::<64>(job, reading, request, number)
+    } else {
+        answer_with::<256>(job, reading, request, number)
     }
-    answer_many(job, reading, request, number)
 }
 
-// The offer of a number of a request, under a reading: 0 and the 40 bytes, 1 past the list, or a refusal.
-pub fn offer(job: &[u8], reading: u32, request: u32, number: u32, out: &mut [u8]) -> u32
-    ensures calls { Calls (offer_call job.now reading request number out.old) result out.new }
+// The offer of a number of a request, under a reading. Answers whether there is one; its 40 bytes are written.
+pub fn offer(
+    job: &[u8],
+    reading: u32,
+    request: u32,
+    number: u32,
+    out: &mut [u8],
+) -> Result<bool, Refusal>
+    ensures calls { Calls (offer_call job.now reading request number out.old) (result_in result) out.new }
     ensures demands { Demands job.now }
 {
     if out.len() != sizes::RECORD {
-        return 16;
+        return Err(Refusal::WrongOutput);
     }
-    let answer = offer_at(job, reading, request, number);
-    let result = answer.result;
-    if result == 0 {
-        record::write_record(out, answer.offer, answer.synthesis, answer.charmap_index);
+    match offer_at(job, reading, request, number)? {
+        None => Ok(false),
+        Some(answer) => {
+            record::write_record(out, answer.offer, answer.synthesis, answer.charmap_index);
+            Ok(true)
+        }
     }
-    result
 }

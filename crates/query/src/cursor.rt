@@ -1,10 +1,11 @@
 // The offer cursor, which each step consumes and returns.
 ghost use Rattle.std.specs.Prelude.{◌≡◌};
-ghost use Rattle.query.specs.Cursor.{fresh, after, stepped};
+ghost use Rattle.query.specs.Cursor.{fresh, after, stepped, step_in};
 ghost use Rattle.query.specs.Demands.{Demands};
 
 use crate::answer::Answer;
 use crate::call;
+use font::refusal::Refusal;
 
 // A request and the number of its next offer. Any two numbers make a cursor.
 #[derive(Clone, Copy)]
@@ -17,7 +18,7 @@ pub struct Cursor {
 #[derive(Clone, Copy)]
 pub struct Step {
     pub cursor: Cursor,
-    pub answer: Answer,
+    pub answer: Result<Option<Answer>, Refusal>,
 }
 
 impl Cursor {
@@ -31,22 +32,19 @@ impl Cursor {
     fn after(mut self, found: bool) -> Self
         ensures { result ≡ after self found }
     {
-        let next = self.next;
         if found {
-            if next < 0xFFFF_FFFF {
-                self.next = next + 1;
-            }
+            self.next = self.next.saturating_add(1);
         }
         self
     }
 
     // The answer to the cursor's numbers, under a reading.
     pub fn step(mut self, job: &[u8], reading: u32) -> Step
-        ensures value { result ≡ stepped job.now reading self }
+        ensures value { step_in result ≡ stepped job.now reading self }
         ensures demands { Demands job.now }
     {
         let answer = call::offer_at(job, reading, self.request, self.next);
-        self = self.after(answer.result == 0);
+        self = self.after(answer.is_ok_and(|found| found.is_some()));
         Step {
             cursor: self,
             answer,

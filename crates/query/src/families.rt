@@ -2,104 +2,84 @@
 // counting down, and no list is made.
 ghost use Rattle.std.specs.Prelude.{◌≡◌, ◌^◌, ◌<◌, length};
 ghost use Rattle.matching.specs.Order.{equal_places};
-ghost use Rattle.matching.specs.Rows.{family_of_rows, Placed};
+ghost use Rattle.matching.specs.Matching.{place_or};
+ghost use Rattle.matching.specs.Rows.{family_of_rows};
 ghost use Rattle.query.specs.Offers.{pick, keep, family_offers};
 ghost use Rattle.query.specs.CallTables.{is_held, held_row};
-ghost use Rattle.query.specs.Listed.{MembersKnown, default_offered, default_offers, offers_at};
+ghost use Rattle.query.specs.Listed.{MembersKnown, equals_chosen, default_offered, default_offers, offers_at};
 
 use font::tables;
 use matching::order::Request;
-use matching::rows::{MARKS, Row};
-use matching::{rows, stages};
-
-// The place of a family's offer, or how far past the family's offers the number lies.
-#[derive(Clone, Copy)]
-pub(crate) enum FamilyOffer {
-    Place(u16),
-    Left(usize),
-}
+use matching::rows::{FamilyRows, Row};
 
 // Whether a face is held.
 fn is_held(face: Row) -> bool
     ensures { result ≡ is_held face }
 {
-    face[MARKS] / 2 % 2 == 1
+    face.marks / 2 % 2 == 1
 }
 
-// The n-th of the held faces that equal the chosen one, in place order; none where none is chosen.
-fn held_equal(rows: &[Row], members: &[u8], count: usize, chosen: usize, n: usize) -> FamilyOffer
-    requires { Placed rows.now members.now count }
-    ensures { result ≡ pick FamilyOffer.Place FamilyOffer.Left (keep (held_row rows.now members.now) (equal_places (family_of_rows rows.now members.now count) chosen)) n }
+// Whether a face equals the chosen one, if a face is chosen.
+fn equals_chosen(family: FamilyRows, chosen: Option<usize>, face: Row) -> bool
+    ensures { result ≡ equals_chosen family.entry.rows.now family.entry.members.now family.entry.count (place_or family.entry.count chosen) face }
 {
-    if count <= chosen {
-        return FamilyOffer::Left(n);
+    // Not `is_some_and`, for the reason that `family_offer` names.
+    match chosen {
+        Some(place) => place < family.count && family.row(place).same_face(face),
+        None => false,
     }
-    let wanted = rows::place_row(rows, members, chosen);
+}
+
+// The n-th of the held faces that equal the chosen one, in place order. Else how far past them n lies.
+fn held_equal(family: FamilyRows, chosen: Option<usize>, n: usize) -> Result<u16, usize>
+    ensures { result ≡ pick Ok Err (keep (held_row family.entry.rows.now family.entry.members.now) (equal_places (family_of_rows family.entry.rows.now family.entry.members.now family.entry.count) (place_or family.entry.count chosen))) n }
+{
     let mut left = n;
-    let mut i: usize = 0;
-    while i < count {
-        let face = rows::place_row(rows, members, i);
-        if is_held(face) {
-            if rows::same_face(wanted, face) {
-                if left == 0 {
-                    return FamilyOffer::Place(i as u16);
-                }
-                left -= 1;
+    for place in 0..family.count {
+        let face = family.row(place);
+        if is_held(face) && equals_chosen(family, chosen, face) {
+            if left == 0 {
+                return Ok(place as u16);
             }
+            left -= 1;
         }
-        i += 1;
     }
-    FamilyOffer::Left(left)
+    Err(left)
 }
 
 // Whether the default is held and not among the held faces that equal the chosen one.
-fn offers_default(rows: &[Row], members: &[u8], count: usize, chosen: usize, default: usize) -> bool
-    requires { Placed rows.now members.now count }
-    ensures { result ≡ default_offered rows.now members.now count chosen default }
+fn offers_default(family: FamilyRows, chosen: Option<usize>, default: usize) -> bool
+    ensures { result ≡ default_offered family.entry.rows.now family.entry.members.now family.entry.count (place_or family.entry.count chosen) default }
 {
-    if count <= default {
-        return false;
-    }
-    let face = rows::place_row(rows, members, default);
-    if is_held(face) {
-        if chosen < count {
-            return !rows::same_face(rows::place_row(rows, members, chosen), face);
-        }
-        return true;
-    }
-    false
+    default < family.count
+        && is_held(family.row(default))
+        && !equals_chosen(family, chosen, family.row(default))
 }
 
 // The n-th offer behind the held equal faces: the default, if it is offered, and nothing further.
-fn default_offer(rows: &[Row], members: &[u8], count: usize, chosen: usize, n: usize) -> FamilyOffer
-    requires { Placed rows.now members.now count }
-    ensures { result ≡ pick FamilyOffer.Place FamilyOffer.Left (default_offers rows.now members.now count chosen) n }
+fn default_offer(family: FamilyRows, chosen: Option<usize>, n: usize) -> Result<u16, usize>
+    ensures { result ≡ pick Ok Err (default_offers family.entry.rows.now family.entry.members.now family.entry.count (place_or family.entry.count chosen)) n }
 {
-    let default = stages::default_place(rows, members, count);
-    if offers_default(rows, members, count, chosen, default) {
-        if n == 0 {
-            return FamilyOffer::Place(default as u16);
-        }
-        return FamilyOffer::Left(n - 1);
+    let default = family.default_place();
+    if !offers_default(family, chosen, default) {
+        return Err(n);
     }
-    FamilyOffer::Left(n)
+    if n == 0 {
+        Ok(default as u16)
+    } else {
+        Err(n - 1)
+    }
 }
 
-// The n-th offer of a family, given by its rows and members.
-fn family_offer(
-    rows: &[Row],
-    members: &[u8],
-    count: usize,
-    request: Request,
-    n: usize,
-) -> FamilyOffer
-    requires { Placed rows.now members.now count }
-    ensures { result ≡ pick FamilyOffer.Place FamilyOffer.Left (family_offers (family_of_rows rows.now members.now count) (held_row rows.now members.now) request) n }
+// The n-th offer of a family, or how far past its offers n lies.
+fn family_offer(family: FamilyRows, request: Request, n: usize) -> Result<u16, usize>
+    ensures { result ≡ pick Ok Err (family_offers (family_of_rows family.entry.rows.now family.entry.members.now family.entry.count) (held_row family.entry.rows.now family.entry.members.now) request) n }
 {
-    let chosen = stages::choose(rows, members, count, request);
-    match held_equal(rows, members, count, chosen, n) {
-        FamilyOffer::Place(place) => FamilyOffer::Place(place),
-        FamilyOffer::Left(left) => default_offer(rows, members, count, chosen, left),
+    let chosen = family.choose(request);
+    // Not `or_else`: of a closure that holds the family the proof does not know what it returns.
+    match held_equal(family, chosen, n) {
+        Ok(place) => Ok(place),
+        Err(left) => default_offer(family, chosen, left),
     }
 }
 
@@ -110,14 +90,19 @@ pub(crate) fn entry_offer(
     rows: &[Row],
     request: Request,
     n: usize,
-) -> FamilyOffer
+) -> Result<u16, usize>
     requires { (at < 2 ^ 32) × MembersKnown job.now at (length rows.now) }
-    ensures { result ≡ pick FamilyOffer.Place FamilyOffer.Left (offers_at job.now at rows.now request) n }
+    ensures { result ≡ pick Ok Err (offers_at job.now at rows.now request) n }
 {
     let count = tables::u16_at(job, at) as usize;
     if count == 0 {
-        return FamilyOffer::Left(n);
+        return Err(n);
     }
     let members = &job[at + 2..at + 2 + 2 * count];
-    family_offer(rows, members, count, request, n)
+    let family = FamilyRows {
+        rows,
+        members,
+        count,
+    };
+    family_offer(family, request, n)
 }

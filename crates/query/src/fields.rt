@@ -1,26 +1,22 @@
 // The fields of a job. Each function takes the job and a position, and answers the refusal or the next position.
-ghost use Rattle.std.specs.Prelude.{◌≡◌, ◌+◌, ◌^◌, ◌≤◌, ◌<◌, length, get_or, ltb};
+ghost use Rattle.std.specs.Prelude.{◌≡◌, ℕ, ◌^◌, ◌≤◌, ◌<◌, List, length, get_or};
 ghost use Rattle.std.specs.Float.{binary32};
 ghost use Rattle.std.specs.Float.Ieee.{of_bits};
 ghost use Rattle.std.specs.Float.Ieee.Scale.{finite};
 ghost use Rattle.font.specs.Single.{accepted_ratio};
-ghost use Rattle.query.specs.Reader.{ended, many};
-ghost use Rattle.query.specs.Fields.{field_end, byte, half, word, ratio, value, count, held_byte, face_number, mask, kind, spare_byte, spare_word, sized_file, font_number, font_file};
+ghost use Rattle.font.specs.Refusals.{number};
+ghost use Rattle.query.specs.Reader.{field, ended, end_in, many};
+ghost use Rattle.query.specs.Fields.{field_end, half, ratio, value, count, held_byte, face_number, mask, kind, spare_byte, spare_word, sized_file, font_number, font_file};
 ghost use Rattle.query.specs.Values.{behind_file};
 
+use crate::job::Refused;
 use crate::sizes;
 use font::collection::{font_count, is_collection};
 use font::font::font_refusal;
+use font::refusal::Refusal;
 use font::{single, tables};
 
-// How reading ended: a refusal and its field's position, or 0 and the next position.
-#[derive(Clone, Copy)]
-pub(crate) struct At {
-    pub refusal: u8,
-    pub at: usize,
-}
-
-// A 32-bit number, which its own type bounds.
+// A 32-bit number. The check knows the range of an array's element only where it is passed by value.
 pub(crate) fn wide(x: u32) -> usize
     ensures { (result ≡ x) × (x < 2 ^ 32) }
 {
@@ -31,72 +27,50 @@ pub(crate) fn wide(x: u32) -> usize
 pub(crate) fn byte_at(job: &[u8], at: usize) -> u8
     ensures { result ≡ get_or job.now at 0 }
 {
-    if at < job.len() { job[at] } else { 0 }
+    job.get(at).copied().unwrap_or(0)
 }
 
-// Whether a field of `size` bytes reaches past the end.
-fn past(job: &[u8], at: usize, size: usize) -> bool
-    ensures { result ≡ ltb (length job.now) (at + size) }
+// A field of `size` bytes. Nothing refuses it but the end.
+pub(crate) fn bytes(job: &[u8], at: usize, size: usize) -> Result<usize, Refused>
+    ensures { (v : List ℕ → ℕ → ℕ) → end_in result ≡ ended (field size v job.now at) }
 {
-    if job.len() < size {
-        return true;
+    match at.checked_add(size) {
+        Some(next) if next <= job.len() => Ok(next),
+        _ => Err(Refused {
+            refusal: Refusal::PastEnd,
+            position: at,
+        }),
     }
-    job.len() - size < at
 }
 
-// A field of `size` bytes that is refused by `refusal` unless `ok`.
-fn tested(job: &[u8], at: usize, size: usize, ok: bool, refusal: u8) -> At
-    ensures { result ≡ field_end job.now at size ok refusal }
+// A field of `size` bytes that is refused by `refusal` unless `ok`. The fields of the format below are one call each.
+fn tested(job: &[u8], at: usize, size: usize, ok: bool, refusal: Refusal) -> Result<usize, Refused>
+    ensures { end_in result ≡ field_end job.now at size ok (number refusal) }
 {
-    if past(job, at, size) {
-        let refusal: u8 = 18;
-        return At { refusal, at };
-    }
+    let next = bytes(job, at, size)?;
     if ok {
-        let next = at + size;
-        At {
-            refusal: 0,
-            at: next,
-        }
+        Ok(next)
     } else {
-        At { refusal, at }
+        Err(Refused {
+            refusal,
+            position: at,
+        })
     }
-}
-
-pub(crate) fn byte(job: &[u8], at: usize) -> At
-    ensures { result ≡ ended (byte job.now at) }
-{
-    tested(job, at, 1, true, 0)
-}
-
-pub(crate) fn half(job: &[u8], at: usize) -> At
-    ensures { result ≡ ended (half job.now at) }
-{
-    tested(job, at, 2, true, 0)
-}
-
-pub(crate) fn word(job: &[u8], at: usize) -> At
-    ensures { result ≡ ended (word job.now at) }
-{
-    tested(job, at, 4, true, 0)
 }
 
 // `count` numbers of 16 bits, from a position in the job on. Nothing refuses one but the end.
-pub(crate) fn halves(job: &[u8], at: usize, count: usize) -> At
+pub(crate) fn halves(job: &[u8], at: usize, count: usize) -> Result<usize, Refused>
     requires { (at ≤ length job.now) × (count < 65536) }
-    ensures { result ≡ ended (many count half job.now at) }
+    ensures { end_in result ≡ ended (many count half job.now at) }
 {
     let fit = (job.len() - at) / 2;
     if fit < count {
-        return At {
-            refusal: 18,
-            at: at + 2 * fit,
-        };
+        return Err(Refused {
+            refusal: Refusal::PastEnd,
+            position: at + 2 * fit,
+        });
     }
-    At {
-        refusal: 0,
-        at: at + 2 * count,
-    }
+    Ok(at + 2 * count)
 }
 
 // Whether the bits are those of a number: no infinity and no NaN.
@@ -110,67 +84,81 @@ pub(crate) fn finite_bits(bits: u32) -> bool
 fn ratio_bits(bits: u32) -> bool
     ensures { result ≡ accepted_ratio (of_bits binary32 bits) }
 {
-    if finite_bits(bits) {
-        single::is_ratio(f32::from_bits(bits))
-    } else {
-        false
-    }
+    finite_bits(bits) && single::is_ratio(f32::from_bits(bits))
 }
 
-pub(crate) fn ratio(job: &[u8], at: usize) -> At
-    ensures { result ≡ ended (ratio job.now at) }
+pub(crate) fn ratio(job: &[u8], at: usize) -> Result<usize, Refused>
+    ensures { end_in result ≡ ended (ratio job.now at) }
 {
-    tested(job, at, 4, ratio_bits(tables::u32_at(job, at)), 26)
+    tested(
+        job,
+        at,
+        4,
+        ratio_bits(tables::u32_at(job, at)),
+        Refusal::BadNumber,
+    )
 }
 
-pub(crate) fn value(job: &[u8], at: usize) -> At
-    ensures { result ≡ ended (value job.now at) }
+pub(crate) fn value(job: &[u8], at: usize) -> Result<usize, Refused>
+    ensures { end_in result ≡ ended (value job.now at) }
 {
-    tested(job, at, 4, finite_bits(tables::u32_at(job, at)), 26)
+    tested(
+        job,
+        at,
+        4,
+        finite_bits(tables::u32_at(job, at)),
+        Refusal::BadNumber,
+    )
 }
 
-pub(crate) fn count(job: &[u8], at: usize, limit: u16) -> At
-    ensures { result ≡ ended (count limit job.now at) }
+pub(crate) fn count(job: &[u8], at: usize, limit: u16) -> Result<usize, Refused>
+    ensures { end_in result ≡ ended (count limit job.now at) }
 {
-    tested(job, at, 2, tables::u16_at(job, at) <= limit, 19)
+    tested(
+        job,
+        at,
+        2,
+        tables::u16_at(job, at) <= limit,
+        Refusal::OverLimit,
+    )
 }
 
-pub(crate) fn held(job: &[u8], at: usize) -> At
-    ensures { result ≡ ended (held_byte job.now at) }
+pub(crate) fn held(job: &[u8], at: usize) -> Result<usize, Refused>
+    ensures { end_in result ≡ ended (held_byte job.now at) }
 {
-    tested(job, at, 1, byte_at(job, at) <= 1, 20)
+    tested(job, at, 1, byte_at(job, at) <= 1, Refusal::NotHeld)
 }
 
 // The number of a face, of which the job has `faces`.
-pub(crate) fn face_number(job: &[u8], at: usize, faces: u16) -> At
-    ensures { result ≡ ended (face_number faces job.now at) }
+pub(crate) fn face_number(job: &[u8], at: usize, faces: u16) -> Result<usize, Refused>
+    ensures { end_in result ≡ ended (face_number faces job.now at) }
 {
-    tested(job, at, 2, tables::u16_at(job, at) < faces, 24)
+    tested(job, at, 2, tables::u16_at(job, at) < faces, Refusal::NoFace)
 }
 
-pub(crate) fn mask(job: &[u8], at: usize) -> At
-    ensures { result ≡ ended (mask job.now at) }
+pub(crate) fn mask(job: &[u8], at: usize) -> Result<usize, Refused>
+    ensures { end_in result ≡ ended (mask job.now at) }
 {
-    tested(job, at, 1, byte_at(job, at) <= 7, 25)
+    tested(job, at, 1, byte_at(job, at) <= 7, Refusal::Unknown)
 }
 
-pub(crate) fn kind(job: &[u8], at: usize) -> At
-    ensures { result ≡ ended (kind job.now at) }
+pub(crate) fn kind(job: &[u8], at: usize) -> Result<usize, Refused>
+    ensures { end_in result ≡ ended (kind job.now at) }
 {
-    tested(job, at, 1, byte_at(job, at) <= 3, 25)
+    tested(job, at, 1, byte_at(job, at) <= 3, Refusal::Unknown)
 }
 
 // A spare field is zero: all its bits are clear.
-pub(crate) fn spare_byte(job: &[u8], at: usize) -> At
-    ensures { result ≡ ended (spare_byte job.now at) }
+pub(crate) fn spare_byte(job: &[u8], at: usize) -> Result<usize, Refused>
+    ensures { end_in result ≡ ended (spare_byte job.now at) }
 {
-    tested(job, at, 1, byte_at(job, at) == 0, 25)
+    tested(job, at, 1, byte_at(job, at) == 0, Refusal::Unknown)
 }
 
-pub(crate) fn spare_word(job: &[u8], at: usize) -> At
-    ensures { result ≡ ended (spare_word job.now at) }
+pub(crate) fn spare_word(job: &[u8], at: usize) -> Result<usize, Refused>
+    ensures { end_in result ≡ ended (spare_word job.now at) }
 {
-    tested(job, at, 4, tables::u32_at(job, at) == 0, 25)
+    tested(job, at, 4, tables::u32_at(job, at) == 0, Refusal::Unknown)
 }
 
 // What stands behind a font file: the number of its font, and where its face ends.
@@ -198,61 +186,48 @@ pub(crate) fn behind_file(job: &[u8], end: usize, file: &[u8]) -> Behind
 }
 
 // The font number behind a file that ends at `end` and has its 12 header bytes. The file's length stands at `place`.
-fn font_number(job: &[u8], end: usize, file: &[u8], place: usize) -> At
+fn font_number(job: &[u8], end: usize, file: &[u8], place: usize) -> Result<usize, Refused>
     requires { 12 ≤ length file.now }
-    ensures { result ≡ ended (font_number place file.now job.now end) }
+    ensures { end_in result ≡ ended (font_number place file.now job.now end) }
 {
     if is_collection(file) {
         let below = (tables::u16_at(job, end) as u32) < font_count(file);
-        return tested(job, end, sizes::FONT_NUMBER, below, 30);
+        return tested(job, end, sizes::FONT_NUMBER, below, Refusal::NoFont);
     }
-    At {
-        refusal: 0,
-        at: end,
-    }
+    Ok(end)
 }
 
 // A font's length and bytes: one field, placed at its length.
-fn sized_file(job: &[u8], at: usize) -> At
-    ensures { result ≡ ended (sized_file job.now at) }
+fn sized_file(job: &[u8], at: usize) -> Result<usize, Refused>
+    ensures { end_in result ≡ ended (sized_file job.now at) }
 {
-    if past(job, at, 4) {
-        return At { refusal: 18, at };
-    }
+    let start = bytes(job, at, 4)?;
     let size = tables::u32_at(job, at) as usize;
-    let start = at + 4;
-    if past(job, start, size) {
-        return At { refusal: 18, at };
-    }
-    let end = start + size;
-    At {
-        refusal: 0,
-        at: end,
-    }
+    bytes(job, start, size).map_err(|why| Refused {
+        refusal: why.refusal,
+        position: at,
+    })
 }
 
 // A font's length and bytes, and a collection's font number. A refusal that is not the number's is placed at the length.
-pub(crate) fn font_file(job: &[u8], at: usize) -> At
-    ensures { result ≡ ended (font_file job.now at) }
+pub(crate) fn font_file(job: &[u8], at: usize) -> Result<usize, Refused>
+    ensures { end_in result ≡ ended (font_file job.now at) }
 {
-    let sized = sized_file(job, at);
-    if sized.refusal != 0 {
-        return sized;
-    }
-    let end = sized.at;
+    let end = sized_file(job, at)?;
     let file = &job[at + 4..end];
     if file.len() < 12 {
-        return At { refusal: 21, at };
+        return Err(Refused {
+            refusal: Refusal::BadDirectory,
+            position: at,
+        });
     }
-    let number = font_number(job, end, file, at);
-    if number.refusal != 0 {
-        return number;
-    }
+    let next = font_number(job, end, file, at)?;
     let behind = behind_file(job, end, file);
-    let refusal = font_refusal(file, behind.number);
-    if refusal == 0 {
-        number
-    } else {
-        At { refusal, at }
+    match font_refusal(file, behind.number) {
+        Ok(()) => Ok(next),
+        Err(refusal) => Err(Refused {
+            refusal,
+            position: at,
+        }),
     }
 }

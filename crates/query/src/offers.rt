@@ -3,123 +3,121 @@
 ghost use Rattle.std.specs.Prelude.{◌≡◌, ◌^◌, ◌<◌};
 ghost use Rattle.query.specs.Values.{list_at};
 ghost use Rattle.query.specs.Offers.{pick, in_turn, offer_at};
-ghost use Rattle.query.specs.CallTables.{TablesOf, Uncounted};
-ghost use Rattle.query.specs.Listed.{row_offers, Counted, listed_at};
+ghost use Rattle.query.specs.Listed.{Loaded, Counted, row_offers, listed_at, SectionIn, Names, Locates, search_in};
 
 use crate::answer::Offer;
-use crate::families::FamilyOffer;
 use crate::fields::wide;
 use crate::{families, fields, loading, sizes};
+use font::attributes::Attributes;
 use font::tables;
 use matching::order::Request;
 use matching::rows::Row;
 
-// An offer of a list of families, or how far past their offers the number lies.
+// An offer that was found, with its face's number, where that face's entry and the overrides lie, and the request's attributes.
 #[derive(Clone, Copy)]
-enum ListOffer {
-    At(Offer),
-    Left(usize),
+pub(crate) struct Found {
+    pub offer: Offer,
+    pub number: usize,
+    pub entry: usize,
+    pub section: usize,
+    pub wanted: Attributes,
 }
 
-// An offer of a request, or past its list.
-#[derive(Clone, Copy)]
-pub(crate) enum Offered {
-    At(Offer),
-    Past,
+// The search for an offer: an accepted job, the rows of its faces, its families' numbers, and the request.
+// A family's number is for where it begins and for its count: two fields would take 256 bytes more of the stack.
+#[derive(Drop)]
+pub(crate) struct Search<'a> {
+    pub job: &'a [u8],
+    pub rows: &'a [Row],
+    pub families: &'a mut [u32; 64],
+    pub request: Request,
+    ghost loaded: { Loaded job.now rows.now families.now },
+    ghost counted: { Counted job.now rows.now request families.now },
 }
 
-// The n-th offer of the family of a number. An unknown number has none. A family is matched where its count is not noted
-// yet, or where it has the offer.
-fn number_offer(
-    job: &[u8],
-    rows: &[Row],
-    families: &mut [u32; 64],
-    request: Request,
-    family: u16,
-    n: usize,
-) -> FamilyOffer
-    requires { TablesOf job.now rows.now families.old × Counted job.now rows.now request families.old }
-    ensures value { result ≡ pick FamilyOffer.Place FamilyOffer.Left (row_offers job.now rows.now request family) n }
-    ensures tables_of { TablesOf job.now rows.now families.new × Counted job.now rows.now request families.new }
-{
-    let number = family as usize;
-    if sizes::MOST_FAMILIES <= family {
-        return FamilyOffer::Left(n);
-    }
-    let noted = families[number];
-    let known = wide(noted / loading::COUNT_STEP);
-    if 0 < known {
-        if known - 1 <= n {
-            return FamilyOffer::Left(n - (known - 1));
+impl<'a> Search<'a> {
+    ghost use Rattle.query.specs.Search.{Keeps};
+
+    // The n-th offer of the family of a number. An unknown number has none. A family is matched where its count is not noted
+    // yet, or where it has the offer.
+    fn number_offer(&mut self, family: u16, n: usize) -> Result<u16, usize>
+        ensures value { result ≡ pick Ok Err (row_offers self.old.job.now self.old.rows.now self.old.request family) n }
+        ensures kept { Keeps self.old self.new }
+    {
+        if sizes::MOST_FAMILIES <= family {
+            return Err(n);
         }
-    }
-    let begin = noted % loading::COUNT_STEP;
-    match families::entry_offer(job, wide(begin), rows, request, n) {
-        FamilyOffer::Place(place) => FamilyOffer::Place(place),
-        FamilyOffer::Left(left) => {
-            families[number] = begin + loading::COUNT_STEP * ((n - left + 1) as u32);
-            FamilyOffer::Left(left)
+        let number = family as usize;
+        let noted = self.families[number];
+        let known = wide(noted / loading::COUNT_STEP);
+        if 0 < known && known - 1 <= n {
+            return Err(n - (known - 1));
         }
+        let begin = noted % loading::COUNT_STEP;
+        let offer = families::entry_offer(self.job, wide(begin), self.rows, self.request, n);
+        if let Err(left) = offer {
+            self.families[number] = begin + loading::COUNT_STEP * ((n - left + 1) as u32);
+        }
+        offer
     }
-}
 
-// The n-th offer of a list of family numbers, which begins with a byte count.
-fn list_offer(
-    job: &[u8],
-    at: usize,
-    rows: &[Row],
-    families: &mut [u32; 64],
-    request: Request,
-    n: usize,
-) -> ListOffer
-    requires { (at < 2 ^ 32) × TablesOf job.now rows.now families.old × Counted job.now rows.now request families.old }
-    ensures value { result ≡ pick ListOffer.At ListOffer.Left (in_turn (row_offers job.now rows.now request) (list_at job.now at)) n }
-    ensures tables_of { TablesOf job.now rows.now families.new × Counted job.now rows.now request families.new }
-{
-    let count = fields::byte_at(job, at) as usize;
-    let mut left = n;
-    let mut k: usize = 0;
-    while k < count {
-        let family = tables::u16_at(job, at + 1 + 2 * k);
-        match number_offer(job, rows, &mut *families, request, family, left) {
-            FamilyOffer::Place(place) => {
-                return ListOffer::At(Offer { family, place });
-            }
-            FamilyOffer::Left(past) => {
-                left = past;
+    // The n-th offer of a list of family numbers, which begins with a byte count.
+    fn list_offer(&mut self, at: usize, n: usize) -> Result<Offer, usize>
+        requires { at < 2 ^ 32 }
+        ensures value { result ≡ pick Ok Err (in_turn (row_offers self.old.job.now self.old.rows.now self.old.request) (list_at self.old.job.now at)) n }
+        ensures kept { Keeps self.old self.new }
+    {
+        let count = fields::byte_at(self.job, at) as usize;
+        let mut left = n;
+        for k in 0..count {
+            let family = tables::u16_at(self.job, at + 1 + 2 * k);
+            match self.number_offer(family, left) {
+                Ok(place) => {
+                    return Ok(Offer { family, place });
+                }
+                Err(past) => {
+                    left = past;
+                }
             }
         }
-        k += 1;
+        Err(left)
     }
-    ListOffer::Left(left)
-}
 
-// The n-th offer of the request whose entry lies at a position.
-pub(crate) fn request_offer(
-    job: &[u8],
-    at: usize,
-    rows: &[Row],
-    families: &mut [u32; 64],
-    request: Request,
-    n: usize,
-) -> Offered
-    requires { (at < 2 ^ 31) × TablesOf job.now rows.now families.old × Uncounted families.old }
-    ensures value { result ≡ offer_at (listed_at job.now rows.now at request) n }
-    ensures tables_of { TablesOf job.now rows.now families.new }
-{
-    let most = tables::u16_at(job, at) as usize;
-    if most <= n {
-        return Offered::Past;
-    }
-    let named = at + sizes::REQUEST_HEAD;
-    match list_offer(job, named, rows, &mut *families, request, n) {
-        ListOffer::At(offer) => Offered::At(offer),
-        ListOffer::Left(left) => {
-            let fallbacks = named + 1 + 2 * (fields::byte_at(job, named) as usize);
-            match list_offer(job, fallbacks, rows, families, request, left) {
-                ListOffer::At(offer) => Offered::At(offer),
-                ListOffer::Left(_) => Offered::Past,
+    // The n-th offer of the request, whose entry lies at a position.
+    pub(crate) fn request_offer(&mut self, at: usize, n: usize) -> Option<Offer>
+        requires { at < 2 ^ 31 }
+        ensures value { result ≡ offer_at (listed_at self.old.job.now self.old.rows.now at self.old.request) n }
+        ensures kept { Keeps self.old self.new }
+    {
+        if tables::u16_at(self.job, at) as usize <= n {
+            return None;
+        }
+        let named = at + sizes::REQUEST_HEAD;
+        match self.list_offer(named, n) {
+            Ok(offer) => Some(offer),
+            Err(left) => {
+                let fallbacks = named + 1 + 2 * (fields::byte_at(self.job, named) as usize);
+                self.list_offer(fallbacks, left).ok()
             }
+        }
+    }
+
+    // An offer with where its face lies. The section of the overrides lies at `section`.
+    pub(crate) fn place_of_face(self, section: usize, offer: Offer, wanted: Attributes) -> Found
+        requires section_in { SectionIn self.job.now section }
+        requires names { Names self.job.now offer }
+        ensures { Locates self.entry.job.now offer wanted (search_in (Ok (Some result))) }
+    {
+        let family = offer.family as usize;
+        let at = wide(self.families[family] % loading::COUNT_STEP);
+        let number = tables::u16_at(self.job, at + 2 + 2 * (offer.place as usize)) as usize;
+        let entry = wide(self.rows[number].marks / 4);
+        Found {
+            offer,
+            number,
+            entry,
+            section,
+            wanted,
         }
     }
 }

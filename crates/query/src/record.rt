@@ -1,52 +1,20 @@
 // The 40 bytes of an offer.
-ghost use Rattle.std.specs.Prelude.{◌≡◌, true, false, [], ◌∷◌, ◌++◌, ◌+◌, ◌^◌, ◌≤◌, ◌<◌, length, take};
+ghost use Rattle.std.specs.Prelude.{◌≡◌, true, false, ◌++◌, ◌+◌, ◌^◌, ◌≤◌, ◌<◌, length, take};
 ghost use Rattle.std.specs.Float.Ieee.{is_nan};
+ghost use Rattle.matching.specs.Synthesis.{laid_out};
 ghost use Rattle.query.specs.Sizes.{record_size};
-ghost use Rattle.query.specs.Layout.{bytes16, bytes32};
-ghost use Rattle.query.specs.Record.{flag, twos_complement, head_bytes, slot_bytes, index_bytes, Numbers, record_bytes};
+ghost use Rattle.query.specs.Record.{head_bytes, slot_bytes, index_bytes, Numbers, record_bytes};
 
 use crate::answer::Offer;
 use font::charmap::CharmapIndex;
-use matching::synthesis::Synthesis;
+use matching::synthesis::{Setting, Synthesis};
 
-// Each of the functions that put bytes at a position leaves those before it as they are.
-fn put_byte(out: &mut [u8], at: usize, x: u8)
-    requires { at + 1 ≤ length out.old }
-    ensures { take (at + 1) out.new ≡ take at out.old ++ (x ∷ []) }
+// Puts bytes at a position. Those before it stay as they are.
+fn put<const N: usize>(out: &mut [u8], at: usize, bytes: [u8; N])
+    requires { at + N ≤ length out.old }
+    ensures { take (at + N) out.new ≡ take at out.old ++ bytes.entry }
 {
-    out[at] = x;
-}
-
-fn put_half(out: &mut [u8], at: usize, x: u16)
-    requires { at + 2 ≤ length out.old }
-    ensures { take (at + 2) out.new ≡ take at out.old ++ bytes16 x }
-{
-    put_byte(&mut *out, at, (x / 256) as u8);
-    put_byte(&mut *out, at + 1, (x % 256) as u8);
-}
-
-fn put_word(out: &mut [u8], at: usize, x: u32)
-    requires { at + 4 ≤ length out.old }
-    ensures { take (at + 4) out.new ≡ take at out.old ++ bytes32 x }
-{
-    put_half(&mut *out, at, (x / 65536) as u16);
-    put_half(&mut *out, at + 2, (x % 65536) as u16);
-}
-
-fn flag(x: bool) -> u8
-    ensures { result ≡ flag x }
-{
-    if x { 1 } else { 0 }
-}
-
-fn twos_complement(x: i8) -> u8
-    ensures { result ≡ twos_complement x }
-{
-    if x < 0 {
-        (256 + (x as i16)) as u8
-    } else {
-        x as u8
-    }
+    out[at..at + N].copy_from_slice(&bytes);
 }
 
 // The offer's family and place, emboldening, skew, and how many settings follow.
@@ -54,25 +22,22 @@ fn put_head(out: &mut [u8], offer: Offer, embolden: bool, skew: i8, count: u8)
     requires { length out.old ≡ record_size }
     ensures { take 8 out.new ≡ head_bytes offer embolden skew count }
 {
-    put_half(&mut *out, 0, offer.family);
-    put_half(&mut *out, 2, offer.place);
-    put_byte(&mut *out, 4, flag(embolden));
-    put_byte(&mut *out, 5, twos_complement(skew));
-    put_byte(&mut *out, 6, count);
-    put_byte(&mut *out, 7, 0);
+    put(&mut *out, 0, offer.family.to_be_bytes());
+    put(&mut *out, 2, offer.place.to_be_bytes());
+    put(out, 4, [u8::from(embolden), skew.cast_unsigned(), count, 0]);
 }
 
 // A setting's tag and value, or zeros.
-fn put_slot(out: &mut [u8], at: usize, used: bool, tag: u32, value: f32)
-    requires { (at + 8 ≤ length out.old) × (used ≡ true → is_nan value ≡ false) }
-    ensures { take (at + 8) out.new ≡ take at out.old ++ slot_bytes used tag value }
+fn put_slot(out: &mut [u8], at: usize, used: bool, setting: Setting)
+    requires { (at + 8 ≤ length out.old) × (used ≡ true → is_nan setting.value ≡ false) }
+    ensures { take (at + 8) out.new ≡ take at out.old ++ slot_bytes used setting.tag setting.value }
 {
     if used {
-        put_word(&mut *out, at, tag);
-        put_word(&mut *out, at + 4, f32::to_bits(value));
+        let value = setting.value.to_bits();
+        put(&mut *out, at, setting.tag.to_be_bytes());
+        put(out, at + 4, value.to_be_bytes());
     } else {
-        put_word(&mut *out, at, 0);
-        put_word(&mut *out, at + 4, 0);
+        put(out, at, [0; 8]);
     }
 }
 
@@ -81,23 +46,22 @@ fn put_index(out: &mut [u8], index: CharmapIndex)
     requires { (length out.old ≡ record_size) × (index.subtable_offset < 2 ^ 32) }
     ensures { take record_size out.new ≡ take 32 out.old ++ index_bytes index }
 {
-    put_word(&mut *out, 32, index.subtable_offset as u32);
-    put_byte(&mut *out, 36, flag(index.is_symbol));
-    put_byte(&mut *out, 37, flag(index.is_mac_roman));
-    put_half(&mut *out, 38, 0);
+    let offset = index.subtable_offset as u32;
+    let symbol = u8::from(index.is_symbol);
+    let mac_roman = u8::from(index.is_mac_roman);
+    put(&mut *out, 32, offset.to_be_bytes());
+    put(out, 36, [symbol, mac_roman, 0, 0]);
 }
 
 // The record of an offer. A slot past the count of settings is zero.
 pub(crate) fn write_record(out: &mut [u8], offer: Offer, synthesis: Synthesis, index: CharmapIndex)
-    requires { (length out.old ≡ record_size) × (index.subtable_offset < 2 ^ 32) × Numbers synthesis }
-    ensures { out.new ≡ record_bytes offer synthesis index }
+    requires { (length out.old ≡ record_size) × (index.subtable_offset < 2 ^ 32) × Numbers (laid_out synthesis) }
+    ensures { out.new ≡ record_bytes offer (laid_out synthesis) index }
 {
     let count = synthesis.len;
-    let tags = synthesis.tags;
-    let values = synthesis.values;
     put_head(&mut *out, offer, synthesis.embolden, synthesis.skew, count);
-    put_slot(&mut *out, 8, 0 < count, tags[0], values[0]);
-    put_slot(&mut *out, 16, 1 < count, tags[1], values[1]);
-    put_slot(&mut *out, 24, 2 < count, tags[2], values[2]);
-    put_index(&mut *out, index);
+    put_slot(&mut *out, 8, 0 < count, synthesis.settings[0]);
+    put_slot(&mut *out, 16, 1 < count, synthesis.settings[1]);
+    put_slot(&mut *out, 24, 2 < count, synthesis.settings[2]);
+    put_index(out, index);
 }

@@ -7,6 +7,7 @@ use font::attributes::{Angle, Attributes, FontStyle, FontWeight, FontWidth};
 use font::tables;
 
 // The number whose bits lie at a position, or 0 where they are of none.
+#[tactic(auto, using(font::proofs::FiniteBits::finite_no_nan), unfolding(crate::specs::Values::number_at))]
 pub(crate) fn number_at(job: &[u8], at: usize) -> f32
     ensures { result ≡ number_at job.now at }
 {
@@ -19,24 +20,21 @@ pub(crate) fn number_at(job: &[u8], at: usize) -> f32
 }
 
 // Kind and angle.
+#[tactic(auto, unfolding(crate::specs::Values::style_at, crate::specs::Entries::style_of_kind))]
 pub(crate) fn style_at(job: &[u8], at: usize) -> FontStyle
     requires { at < 2 ^ 63 }
     ensures { result ≡ style_at job.now at }
 {
-    let kind = fields::byte_at(job, at);
-    if kind == 0 {
-        return FontStyle::Normal;
+    match fields::byte_at(job, at) {
+        0 => FontStyle::Normal,
+        1 => FontStyle::Italic,
+        3 => FontStyle::Oblique(Angle::Degrees(number_at(job, at + 1))),
+        _ => FontStyle::Oblique(Angle::Unstated),
     }
-    if kind == 1 {
-        return FontStyle::Italic;
-    }
-    if kind == 3 {
-        return FontStyle::Oblique(Angle::Degrees(number_at(job, at + 1)));
-    }
-    FontStyle::Oblique(Angle::Unstated)
 }
 
 // Ratio, style and weight of a request.
+#[tactic(auto, unfolding(crate::specs::Values::attributes_at))]
 pub(crate) fn attributes_at(job: &[u8], at: usize) -> Attributes
     requires { at + 9 < 2 ^ 63 }
     ensures { result ≡ attributes_at job.now at }

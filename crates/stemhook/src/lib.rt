@@ -13,8 +13,10 @@ pub fn stemhook_check(job: &[u8]) -> u64
     ensures value { result ≡ (check_job job.now).position * 256 + (check_job job.now).refusal }
     ensures demands { Demands job.now }
 {
-    let checked = job::check(job);
-    (checked.position as u64) * 256 + checked.refusal as u64
+    match job::check(job) {
+        Ok(()) => 0,
+        Err(refused) => (refused.position as u64) * 256 + u64::from(refused.refusal.number()),
+    }
 }
 
 // The offer call under a reading, 0 or 1: 0 and the 40 bytes, 1 past the list, or a refusal.
@@ -22,5 +24,9 @@ pub fn stemhook_offer(job: &[u8], reading: u32, request: u32, offer: u32, out: &
     ensures calls { Calls (offer_call job.now reading request offer out.old) result out.new }
     ensures demands { Demands job.now }
 {
-    call::offer(job, reading, request, offer, out)
+    match call::offer(job, reading, request, offer, out) {
+        Ok(true) => 0,
+        Ok(false) => 1,
+        Err(refusal) => u32::from(refusal.number()),
+    }
 }

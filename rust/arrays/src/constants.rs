@@ -41,12 +41,17 @@ fn number_at(program: &Program, scope: Scope, value: &Expr, depth: usize) -> Tol
         Kind::Number(digits, _) => literal(digits),
         Kind::Cast(inner, _) => number_at(program, scope, inner, depth),
         Kind::Path(path) => {
+            if let Some((name, length)) = scope.length
+                && path.concat() == name
+            {
+                return Ok(length);
+            }
             let unknown = || format!("the value of {} is not known", path.join("::"));
             let whole = program.whole(scope, path).ok_or_else(unknown)?;
             let item = program.constants.get(&whole).ok_or_else(unknown)?;
             let inner = Scope {
-                module: item.module,
                 of: item.value.of.as_deref(),
+                ..Scope::of_module(item.module)
             };
             number_at(program, inner, &item.value.value, depth + 1)
         }

@@ -6,19 +6,22 @@ use crate::program::{Program, Scope};
 use crate::tree::{Block, Expr, Kind, Statement};
 
 /// The function that chooses a place of a family.
-pub const CHOOSE: &str = "matching::stages::choose";
+pub const CHOOSE: &str = "matching::rows::FamilyRows::choose";
 
 /// The expressions right under an expression, in the order in which they are reached.
 pub fn parts(value: &Expr) -> Vec<&Expr> {
     match &value.kind {
-        Kind::Number(_, _) | Kind::Bool | Kind::Path(_) => Vec::new(),
+        Kind::Number(_, _) | Kind::Bool | Kind::Path(_) | Kind::Leave => Vec::new(),
+        Kind::Try(of) | Kind::Closure(_, of) | Kind::Let(_, of) => vec![of],
+        Kind::Matches(of, test, _) => [&**of].into_iter().chain(test.as_deref()).collect(),
         Kind::Unary(of) | Kind::Deref(of) | Kind::Cast(of, _) | Kind::Field(of, _) => vec![of],
         Kind::Borrow { of, .. } => vec![of],
         Kind::Binary(_, left, right) | Kind::Index(left, right) | Kind::Repeat(left, right) => {
             vec![left, right]
         }
         Kind::Assign(place, given) => vec![given, place],
-        Kind::Call(_, given) | Kind::Items(given) => given.iter().collect(),
+        Kind::Call(_, given) | Kind::Items(given) | Kind::Tuple(given) => given.iter().collect(),
+        Kind::Sized(_, length, given) => [&**length].into_iter().chain(given).collect(),
         Kind::Method(of, _, given) => [&**of].into_iter().chain(given).collect(),
         Kind::Range(first, last) => first.iter().chain(last).map(|e| &**e).collect(),
         Kind::Struct(_, fields) => fields.iter().map(|(_, field)| field).collect(),
@@ -29,11 +32,15 @@ pub fn parts(value: &Expr) -> Vec<&Expr> {
             all
         }
         Kind::Match(of, arms) => {
-            let values = arms.iter().map(|arm| &arm.value);
+            let values = arms
+                .iter()
+                .flat_map(|arm| arm.test.iter().chain([&arm.value]));
             [&**of].into_iter().chain(values).collect()
         }
         Kind::Block(block) => block_parts(block),
-        Kind::While(test, body) => [&**test].into_iter().chain(block_parts(body)).collect(),
+        Kind::While(test, body) | Kind::For(_, test, body) => {
+            [&**test].into_iter().chain(block_parts(body)).collect()
+        }
         Kind::Return(given) => given.iter().map(|e| &**e).collect(),
     }
 }
@@ -42,9 +49,12 @@ pub fn block_parts(block: &Block) -> Vec<&Expr> {
     let statements = block
         .statements
         .iter()
-        .filter_map(|statement| match statement {
-            Statement::Let(binding) => binding.value.as_ref(),
-            Statement::Expr(value) => Some(value),
+        .flat_map(|statement| match statement {
+            Statement::Let(binding) => {
+                let other = binding.other.iter().flat_map(block_parts);
+                binding.value.iter().chain(other).collect()
+            }
+            Statement::Expr(value) => vec![value],
         });
     statements.chain(block.tail.as_deref()).collect()
 }
@@ -70,6 +80,9 @@ impl Leads {
     pub fn new(program: &Program) -> Self {
         let mut leads = Self::default();
         leads.functions.insert(CHOOSE.into());
+        leads
+            .methods
+            .extend(CHOOSE.rsplit("::").next().map(str::to_string));
         loop {
             let before = leads.functions.len();
             for (path, item) in &program.functions {
@@ -104,7 +117,8 @@ impl Leads {
     /// Whether the expression itself is a call that leads there. A method is taken for every one of its name.
     fn calls(&self, program: &Program, scope: Scope, value: &Expr) -> bool {
         match &value.kind {
-            Kind::Call(path, _) => {
+            Kind::Path(path) if scope.is_local(path) => false,
+            Kind::Call(path, _) | Kind::Sized(path, _, _) | Kind::Path(path) => {
                 let whole = program.whole(scope, path);
                 whole.is_some_and(|whole| self.functions.contains(&whole))
             }

@@ -4,6 +4,11 @@
 //! What it cannot see: faces that are kept without an array, in a struct of many plain fields or in the bits of numbers;
 //! several of them packed in one entry of the one list; what the compiler copies; callers in other crates than the five
 //! that it reads; and a choice in other words, which calls no stage and nothing that ranks.
+//!
+//! A closure counts where it is written, and a function that is handed on where it is named, each as if it were called
+//! once there. Of a value that only a closure knows the type may be open: then each of our own methods of a name is
+//! followed, and a field or an entry of the value is taken to hold no array. An error of a `Result` that has an array is
+//! a finding.
 
 mod constants;
 mod findings;

@@ -23,9 +23,11 @@ fn is_standing(path: &str) -> bool {
 /// What an expression itself names. A method is taken for every one of its name.
 fn named(program: &Program, scope: Scope, value: &Expr) -> Vec<String> {
     match &value.kind {
-        Kind::Call(path, _) | Kind::Path(path) | Kind::Struct(path, _) => {
-            program.whole(scope, path).into_iter().collect()
-        }
+        Kind::Path(path) if scope.is_local(path) => Vec::new(),
+        Kind::Call(path, _)
+        | Kind::Sized(path, _, _)
+        | Kind::Path(path)
+        | Kind::Struct(path, _) => program.whole(scope, path).into_iter().collect(),
         Kind::Method(_, name, _) => {
             let all = program.functions.iter();
             let methods = all.filter(|(_, f)| f.value.of.is_some() && f.value.name == *name);

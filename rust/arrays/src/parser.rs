@@ -5,6 +5,8 @@ mod items;
 mod statements;
 mod types;
 
+use std::collections::BTreeSet;
+
 use crate::tokens::{Placed, Token, tokens};
 use crate::tree::{File, Kind};
 use crate::types::is_plain;
@@ -21,6 +23,8 @@ type Read<T> = Result<T, Failure>;
 struct Parser {
     tokens: Vec<Placed>,
     at: usize,
+    /// The names that the function which is read gives to its own.
+    locals: BTreeSet<String>,
 }
 
 impl Parser {
@@ -115,6 +119,7 @@ pub fn parse(text: &str) -> Read<File> {
     let mut parser = Parser {
         tokens: tokens(text),
         at: 0,
+        locals: BTreeSet::new(),
     };
     parser.file()
 }

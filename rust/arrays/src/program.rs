@@ -26,6 +26,8 @@ impl Item<Function> {
         Scope {
             module: self.module,
             of: self.value.of.as_deref(),
+            length: None,
+            locals: Some(&self.value.locals),
         }
     }
 }
@@ -44,6 +46,27 @@ pub struct Program {
 pub struct Scope<'a> {
     pub module: usize,
     pub of: Option<&'a str>,
+    /// The name of a length that the call gave, and that length.
+    pub length: Option<(&'a str, usize)>,
+    /// The names of a function's own, wherever they stand in it.
+    pub locals: Option<&'a BTreeSet<String>>,
+}
+
+impl Scope<'_> {
+    /// A module's own.
+    pub fn of_module(module: usize) -> Self {
+        Self {
+            module,
+            of: None,
+            length: None,
+            locals: None,
+        }
+    }
+
+    /// Whether a path is the name of a local.
+    pub fn is_local(&self, path: &[String]) -> bool {
+        path.len() == 1 && self.locals.is_some_and(|all| all.contains(&path[0]))
+    }
 }
 
 /// The whole path of the type that an `impl` block names: a used one, or the module's own.

@@ -3,9 +3,9 @@
 use crate::findings::Findings;
 use crate::leads::{CHOOSE, Leads, every};
 use crate::outside;
-use crate::program::{Program, Scope};
-use crate::tree::{Expr, Kind};
-use crate::walk::{DEFAULT, OUTSIDE, Quiet, STAGES, Walker, Way};
+use crate::program::{Item, Program};
+use crate::tree::{Expr, Function, Kind, TypeTree};
+use crate::walk::{DEFAULT, OUTSIDE, Quiet, STAGES, Walker, Way, is_known};
 
 /// The most entries of the one list beside the family.
 pub const MOST_ENTRIES: usize = 64;
@@ -160,7 +160,7 @@ fn names(way: &Way, peak: &[usize]) -> String {
 fn known_calls(program: &Program, findings: &mut Findings) {
     for (path, item) in &program.functions {
         every(&item.value.body, &mut |e| {
-            if let Some(name) = unknown_call(program, item.scope(), e) {
+            if let Some(name) = unknown_call(program, item, e) {
                 let file = program.file(item.module);
                 findings.add(format!(
                     "{path}: the call of {name} is not known ({file}:{})",
@@ -171,20 +171,29 @@ fn known_calls(program: &Program, findings: &mut Findings) {
     }
 }
 
-fn unknown_call(program: &Program, scope: Scope, value: &Expr) -> Option<String> {
+/// What a function is handed to call, and what std has for values that may be there.
+fn is_called(item: &Item<Function>, name: &str) -> bool {
+    let mut parameters = item.value.parameters.iter();
+    let bound = parameters.any(|p| p.name == name && matches!(p.annotation, TypeTree::Bound(_)));
+    bound || ["Some", "Ok", "Err"].contains(&name)
+}
+
+fn unknown_call(program: &Program, item: &Item<Function>, value: &Expr) -> Option<String> {
+    let scope = item.scope();
     match &value.kind {
-        Kind::Call(path, _) => {
+        Kind::Call(path, _) | Kind::Sized(path, _, _) => {
             let name = path.join("::");
             let whole = program.whole(scope, path);
             let ours = whole.is_some_and(|whole| program.functions.contains_key(&whole));
             let variant = program.variant(scope, path).is_some();
             let outside = OUTSIDE.iter().any(|(known, _)| *known == name);
-            (!ours && !variant && !outside).then_some(name)
+            let known = ours || variant || outside || is_called(item, &name);
+            (!known).then_some(name)
         }
         Kind::Method(_, name, _) => {
             let mut all = program.functions.values();
             let ours = all.any(|item| item.value.of.is_some() && item.value.name == *name);
-            (!ours && name != "len").then(|| name.clone())
+            (!ours && !is_known(name)).then(|| name.clone())
         }
         _ => None,
     }

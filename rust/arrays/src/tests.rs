@@ -1,5 +1,6 @@
 //! The real sources, and changes planted in them.
 
+mod forms;
 mod handed;
 mod outside;
 mod parsing;
@@ -9,7 +10,7 @@ mod short;
 mod tokens;
 mod told;
 
-use std::path::Path;
+use std::{ops::Range, path::Path};
 
 use crate::check;
 use crate::sources::{Source, read};
@@ -32,21 +33,31 @@ impl Planted {
         &mut found.next().expect("the module is there").text
     }
 
+    /// Where the text of a function begins and ends.
+    fn whole(text: &str, function: &str) -> Range<usize> {
+        let heads = ["(", "<"].map(|mark| format!("fn {function}{mark}"));
+        let found = heads.iter().flat_map(|head| text.match_indices(head));
+        let starts: Vec<usize> = found.map(|(at, _)| at).collect();
+        assert_eq!(starts.len(), 1, "{function}");
+        let line = text[..starts[0]].rfind('\n').map_or(0, |at| at + 1);
+        let indent = text[line..].len() - text[line..].trim_start().len();
+        let end = format!("\n{}}}\n", &text[line..line + indent]);
+        let length = text[starts[0]..].find(&end).expect("the function ends");
+        starts[0]..starts[0] + length
+    }
+
     /// In place of a text that stands once in a function, another one.
     fn change(mut self, module: &str, function: &str, old: &str, new: &str) -> Self {
         let text = self.text(module);
-        let head = format!("fn {function}(");
-        assert_eq!(text.matches(&head).count(), 1, "{head} in {module}");
-        let start = text.find(&head).unwrap_or(0);
-        let length = text[start..].find("\n}\n").expect("the function ends");
-        let body = &text[start..start + length];
+        let whole = Self::whole(text, function);
+        let body = &text[whole.clone()];
         assert_eq!(
             body.matches(old).count(),
             1,
             "{old:?} in {function} of {module}"
         );
         let changed = body.replace(old, new);
-        text.replace_range(start..start + length, &changed);
+        text.replace_range(whole, &changed);
         self
     }
 
@@ -111,16 +122,16 @@ fn what_was_counted() {
         "  family `fonts`: [FontInfo; 64], 19456 bytes, of matching::matching::match_font "
     ));
     assert!(has(
-        "  family `rows`: [[u32; 5]; 64], 1280 bytes, of query::call::answer_few "
+        "  family `rows`: [Row; 64], 1280 bytes, of query::call::answer_with "
     ));
     assert!(has(
-        "  family `rows`: [[u32; 5]; 256], 5120 bytes, of query::call::answer_many "
+        "  family `rows`: [Row; 256], 5120 bytes, of query::call::answer_with "
     ));
     assert!(has(
         "  beside `families`: [u32; 64], 256 bytes, of query::call::search_with "
     ));
     let choice = lines.iter().find(|l| l.starts_with("choice: "));
-    let counted = "4 loops, 0 arrays made, 0 writes of entries, at most 5 entries alive";
+    let counted = "2 loops, 0 arrays made, 0 writes of entries, at most 0 entries alive";
     assert!(choice.is_some_and(|l| l.ends_with(counted)), "{choice:?}");
     let last = "arrays: 8 ways, at most 1 list of 64 beside the family, 0 arrays in the choice";
     assert_eq!(lines.last().map(String::as_str), Some(last));

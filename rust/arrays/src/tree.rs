@@ -1,14 +1,24 @@
 //! What the parser makes of a file.
 
+use std::collections::BTreeSet;
+
 /// Names joined by `::`.
 pub type Path = Vec<String>;
 
 #[derive(Clone, Debug, PartialEq)]
 pub enum TypeTree {
     Path(Path),
+    /// With types in brackets.
+    Generic(Path, Vec<TypeTree>),
     Array(Box<TypeTree>, Box<Expr>),
     Slice(Box<TypeTree>),
-    Reference { mutable: bool, inner: Box<TypeTree> },
+    Tuple(Vec<TypeTree>),
+    /// A bound, as of a parameter that is called, with what it is handed then.
+    Bound(Vec<TypeTree>),
+    Reference {
+        mutable: bool,
+        inner: Box<TypeTree>,
+    },
 }
 
 #[derive(Clone, Debug, PartialEq)]
@@ -33,6 +43,18 @@ pub enum Kind {
     Binary(&'static str, Box<Expr>, Box<Expr>),
     Cast(Box<Expr>, TypeTree),
     Call(Path, Vec<Expr>),
+    /// `name::<3>(..)`.
+    Sized(Path, Box<Expr>, Vec<Expr>),
+    /// `e?`.
+    Try(Box<Expr>),
+    /// `|a, b: T| e`.
+    Closure(Vec<(Pattern, Option<TypeTree>)>, Box<Expr>),
+    /// `matches!(e, pattern)`.
+    /// With what stands behind `if`.
+    Matches(Box<Expr>, Option<Box<Expr>>, Box<Pattern>),
+    Tuple(Vec<Expr>),
+    /// `let pattern = e` as a test.
+    Let(Box<Pattern>, Box<Expr>),
     Method(Box<Expr>, String, Vec<Expr>),
     Field(Box<Expr>, String),
     Index(Box<Expr>, Box<Expr>),
@@ -41,6 +63,7 @@ pub enum Kind {
     Repeat(Box<Expr>, Box<Expr>),
     /// `[a, b]`.
     Items(Vec<Expr>),
+    /// A value without a name is what stands behind `..`.
     Struct(Path, Vec<(String, Expr)>),
     If {
         test: Box<Expr>,
@@ -50,6 +73,9 @@ pub enum Kind {
     Match(Box<Expr>, Vec<Arm>),
     Block(Block),
     While(Box<Expr>, Block),
+    For(Pattern, Box<Expr>, Block),
+    /// `break` or `continue`.
+    Leave,
     Return(Option<Box<Expr>>),
     Assign(Box<Expr>, Box<Expr>),
 }
@@ -57,6 +83,8 @@ pub enum Kind {
 #[derive(Clone, Debug, PartialEq)]
 pub struct Arm {
     pub pattern: Pattern,
+    /// What stands behind `if`.
+    pub test: Option<Expr>,
     pub value: Expr,
 }
 
@@ -70,6 +98,11 @@ pub enum Pattern {
     Path(Path),
     Tuple(Path, Vec<Pattern>),
     Struct(Path, Vec<(String, Pattern)>),
+    /// `(a, b)`.
+    Parts(Vec<Pattern>),
+    /// `&a`.
+    Behind(Box<Pattern>),
+    Either(Vec<Pattern>),
 }
 
 #[derive(Clone, Debug, PartialEq)]
@@ -87,9 +120,11 @@ pub enum Statement {
 #[derive(Clone, Debug, PartialEq)]
 pub struct Let {
     pub line: usize,
-    pub name: String,
+    pub pattern: Pattern,
     pub annotation: Option<TypeTree>,
     pub value: Option<Expr>,
+    /// What stands behind `else`, which leaves.
+    pub other: Option<Block>,
 }
 
 #[derive(Clone, Debug, PartialEq)]
@@ -107,6 +142,10 @@ pub struct Function {
     pub public: bool,
     /// The type of the `impl` block that it stands in.
     pub of: Option<String>,
+    /// A length that a call names.
+    pub length: Option<String>,
+    /// The names of its parameters, and those that its patterns give.
+    pub locals: BTreeSet<String>,
     pub parameters: Vec<Parameter>,
     pub result: Option<TypeTree>,
     pub body: Block,

@@ -6,15 +6,9 @@ use crate::constants::number;
 use crate::program::{Program, Scope};
 use crate::tree::{Definition, TypeTree};
 
-/// The most entries of an array that is no list: what one face has, its row of five numbers or its 16 axes. It is for
+/// The most entries of an array that is no list: what one face has, its 16 axes. It is for
 /// the part before the choice, where the faces are taken.
 pub const MOST_OF_A_FACE: usize = 16;
-
-/// The most entries that are alive together in the choice: the row of the one face that a scan looks at.
-pub const MOST_IN_THE_CHOICE: usize = 5;
-
-/// The type of that row.
-const ROW: &str = "matching::rows::Row";
 
 #[derive(Clone, Debug, PartialEq, Eq)]
 pub enum Type {
@@ -31,6 +25,9 @@ pub enum Type {
     },
     /// A struct or an enum, by its whole path.
     Named(String),
+    /// What may be there: an `Option` or a `Result`, of whose errors none has an array.
+    Perhaps(Box<Type>),
+    Tuple(Vec<Type>),
 }
 
 const PLAIN: [(&str, usize); 13] = [
@@ -80,6 +77,11 @@ impl fmt::Display for Type {
                 write!(f, "&{}{inner}", if *mutable { "mut " } else { "" })
             }
             Self::Named(path) => write!(f, "{}", path.rsplit("::").next().unwrap_or(path)),
+            Self::Perhaps(inner) => write!(f, "Option<{inner}>"),
+            Self::Tuple(parts) => {
+                let parts: Vec<String> = parts.iter().map(ToString::to_string).collect();
+                write!(f, "({})", parts.join(", "))
+            }
         }
     }
 }
@@ -87,6 +89,11 @@ impl fmt::Display for Type {
 impl Type {
     pub fn plain(name: &str) -> Self {
         Self::Plain(name.into())
+    }
+
+    /// Of a number with a suffix, which may be empty.
+    pub fn number(suffix: &str) -> Self {
+        Self::plain(if suffix.is_empty() { "number" } else { suffix })
     }
 
     pub fn is_reference(&self) -> bool {
@@ -112,6 +119,23 @@ impl Program {
     pub fn type_of(&self, scope: Scope, tree: &TypeTree) -> Told<Type> {
         match tree {
             TypeTree::Path(path) => self.named_type(scope, path),
+            TypeTree::Generic(path, given) => match (path.concat().as_str(), &given[..]) {
+                ("Option", [inner]) => Ok(Type::Perhaps(Box::new(self.type_of(scope, inner)?))),
+                ("Result", [inner, error]) => {
+                    let error = self.type_of(scope, error)?;
+                    if 0 < self.held(&error)?.arrays {
+                        return Err(format!("the error {error} has an array"));
+                    }
+                    Ok(Type::Perhaps(Box::new(self.type_of(scope, inner)?)))
+                }
+                _ => Err(format!("the type {} is not known", path.join("::"))),
+            },
+            TypeTree::Tuple(parts) if parts.is_empty() => Ok(Type::Unit),
+            TypeTree::Tuple(parts) => {
+                let parts = parts.iter().map(|part| self.type_of(scope, part));
+                Ok(Type::Tuple(parts.collect::<Told<_>>()?))
+            }
+            TypeTree::Bound(_) => Ok(Type::Passed),
             TypeTree::Array(inner, length) => {
                 let inner = Box::new(self.type_of(scope, inner)?);
                 Ok(Type::Array(inner, number(self, scope, length)?))
@@ -130,7 +154,7 @@ impl Program {
         {
             if let Definition::Alias(tree) = &item.value {
                 let module = item.module;
-                return self.type_of(Scope { module, of: None }, tree);
+                return self.type_of(Scope::of_module(module), tree);
             }
             return Ok(Type::Named(whole));
         }
@@ -138,16 +162,6 @@ impl Program {
             [name] if is_plain(name) => Ok(Type::plain(name)),
             _ => Err(format!("the type {} is not known", path.join("::"))),
         }
-    }
-
-    /// Whether it is the type of a face's row.
-    pub fn is_row(&self, of: &Type) -> bool {
-        let Some(item) = self.types.get(ROW) else {
-            return false;
-        };
-        let module = item.module;
-        let scope = Scope { module, of: None };
-        matches!(&item.value, Definition::Alias(tree) if self.type_of(scope, tree).as_ref() == Ok(of))
     }
 
     /// The fields of a struct, or of a variant of an enum, with their types.
@@ -159,16 +173,10 @@ impl Program {
             Definition::Alias(_) => return Err(format!("{path} has no fields")),
         };
         let module = item.module;
-        let scope = Scope { module, of: None };
+        let scope = Scope::of_module(module);
         let mut all = Vec::new();
         for (name, tree) in fields {
-            let of = self.type_of(scope, tree)?;
-            if of.is_reference() {
-                return Err(format!(
-                    "the reference in the field {name} of {path} is not followed"
-                ));
-            }
-            all.push((name.clone(), of));
+            all.push((name.clone(), self.type_of(scope, tree)?));
         }
         Ok(all)
     }
@@ -199,7 +207,40 @@ impl Program {
                 }
                 Ok(most)
             }
+            Type::Perhaps(inner) => self.held(inner),
+            Type::Tuple(parts) => {
+                let mut held = Held::default();
+                for part in parts {
+                    held.add(&self.held(part)?);
+                }
+                Ok(held)
+            }
             _ => Ok(Held::default()),
+        }
+    }
+
+    /// Whether a value of the type is a reference or holds one.
+    pub fn lends(&self, of: &Type) -> bool {
+        self.refers(of, false)
+    }
+
+    /// Whether a value of the type is a reference by which is written, or holds one.
+    pub fn lends_to_write(&self, of: &Type) -> bool {
+        self.refers(of, true)
+    }
+
+    fn refers(&self, of: &Type, to_write: bool) -> bool {
+        match of {
+            Type::Reference { mutable, inner } => {
+                *mutable || !to_write || self.refers(inner, to_write)
+            }
+            Type::Array(inner, _) | Type::Perhaps(inner) => self.refers(inner, to_write),
+            Type::Tuple(parts) => parts.iter().any(|part| self.refers(part, to_write)),
+            Type::Named(path) => (0..self.variants(path)).any(|variant| {
+                let fields = self.fields(path, variant).unwrap_or_default();
+                fields.iter().any(|(_, field)| self.refers(field, to_write))
+            }),
+            Type::Passed | Type::Unit | Type::Plain(_) | Type::Slice(_) => false,
         }
     }
 
@@ -248,21 +289,33 @@ impl Program {
             Type::Reference { inner, .. } if matches!(**inner, Type::Slice(_)) => Ok((16, 8)),
             Type::Reference { .. } => Ok((8, 8)),
             Type::Named(path) => {
-                let variants = self.variants(path);
                 let is_enum = matches!(self.types[path].value, Definition::Enum(_));
                 let (mut bytes, mut align) = (0, 1);
-                for variant in 0..variants {
-                    let mut at = usize::from(is_enum);
-                    for (_, field) in self.fields(path, variant)? {
-                        let (size, own) = self.layout(&field)?;
-                        at = at.next_multiple_of(own) + size;
-                        align = align.max(own);
-                    }
-                    bytes = bytes.max(at);
+                for variant in 0..self.variants(path) {
+                    let fields = self.fields(path, variant)?.into_iter().map(|(_, of)| of);
+                    let (size, own) = self.laid_out(usize::from(is_enum), fields)?;
+                    bytes = bytes.max(size);
+                    align = align.max(own);
                 }
                 Ok((bytes.next_multiple_of(align), align))
             }
+            Type::Perhaps(inner) => {
+                let (bytes, align) = self.layout(inner)?;
+                Ok((bytes + align, align))
+            }
+            Type::Tuple(parts) => self.laid_out(0, parts.iter().cloned()),
             Type::Unit | Type::Passed | Type::Slice(_) => Ok((0, 1)),
         }
+    }
+
+    /// Values one after another behind so many bytes.
+    fn laid_out(&self, head: usize, parts: impl Iterator<Item = Type>) -> Told<(usize, usize)> {
+        let (mut bytes, mut align) = (head, 1);
+        for part in parts {
+            let (size, own) = self.layout(&part)?;
+            bytes = bytes.next_multiple_of(own) + size;
+            align = align.max(own);
+        }
+        Ok((bytes.next_multiple_of(align), align))
     }
 }

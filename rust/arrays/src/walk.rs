@@ -9,9 +9,10 @@ mod calls;
 mod choice;
 mod family;
 mod forms;
+mod known;
 
-pub use calls::OUTSIDE;
 pub use choice::{DEFAULT, STAGES};
+pub use known::{OUTSIDE, is_known};
 
 use std::collections::{BTreeMap, BTreeSet};
 
@@ -146,6 +147,8 @@ pub struct Walker<'p> {
     /// How many arrays were alive where the choice began.
     choice: Option<usize>,
     stages: Vec<&'p str>,
+    /// What the closure that comes next is handed, where it is known.
+    handed: Vec<Value>,
 }
 
 impl<'p> Walker<'p> {
@@ -167,6 +170,7 @@ impl<'p> Walker<'p> {
             loops: 0,
             choice: None,
             stages: Vec::new(),
+            handed: Vec::new(),
         }
     }
 
@@ -212,8 +216,7 @@ impl<'p> Walker<'p> {
             return Value::passed();
         }
         match &e.kind {
-            Kind::Number(_, suffix) if suffix.is_empty() => Value::new(Type::plain("number")),
-            Kind::Number(_, suffix) => Value::new(Type::plain(suffix)),
+            Kind::Number(_, suffix) => Value::new(Type::number(suffix)),
             Kind::Bool => Value::new(Type::plain("bool")),
             Kind::Path(path) => self.named(e.line, path, ask),
             Kind::Unary(of) => Value::new(self.value(of, ask.unbound()).of),
@@ -222,20 +225,25 @@ impl<'p> Walker<'p> {
             Kind::Binary(mark, left, right) => self.binary(mark, left, right, ask),
             Kind::Cast(of, tree) => self.cast(e.line, of, tree, ask),
             Kind::Call(path, given) => self.call(e.line, path, given, ask),
+            Kind::Sized(path, length, given) => self.sized(e.line, (path, length), given, ask),
+            Kind::Try(of) => self.tried(of, ask),
+            Kind::Closure(parameters, body) => self.closure(e.line, parameters, body, ask),
+            Kind::Matches(of, test, pattern) => self.matches(e.line, of, (test, pattern), ask),
+            Kind::Tuple(parts) => self.tuple(e.line, parts, ask),
+            Kind::Let(pattern, of) => self.tested(e.line, pattern, of, ask),
             Kind::Method(of, name, given) => self.method(e.line, (of, name), given, ask),
             Kind::Field(of, name) => self.field(e.line, of, name, ask),
             Kind::Index(of, index) => self.index(e.line, of, index, ask),
-            Kind::Range(_, _) => self.unread(e.line, "a range outside an index is not read"),
+            Kind::Range(first, last) => self.range(first.iter().chain(last), ask),
             Kind::Repeat(of, length) => self.repeat(e.line, of, length, ask),
             Kind::Items(items) => self.items(e.line, items, ask),
             Kind::Struct(path, fields) => self.literal(e.line, path, fields, ask),
             Kind::If { test, then, other } => self.condition(e.line, test, (then, other), ask),
             Kind::Match(of, arms) => self.matched(e.line, of, arms, ask),
-            Kind::Block(block) => {
-                let value = self.block(block, ask.bound());
-                self.fresh(e.line, value.of, ask)
-            }
+            Kind::Block(block) => self.inner_block(e.line, block, ask),
             Kind::While(test, body) => self.repeated(test, body, ask),
+            Kind::For(pattern, of, body) => self.each_of(pattern, of, body, ask),
+            Kind::Leave => Value::passed(),
             Kind::Return(given) => self.returned(given.as_deref()),
             Kind::Assign(place, given) => self.assign(e.line, place, given, ask),
         }

@@ -1,9 +1,6 @@
--- Each face that was passed took less than 4096 bytes. The measure is the number of faces that are left.
-use Rattle.std.proofs.Common.{◌+◌, ◌-◌, ◌*◌, ◌≤◌}
+-- Each face that was passed took less than 4096 bytes.
+use Rattle.std.proofs.Common.{◌+◌, ◌*◌, ◌≤◌}
 use Rattle.match_cases.proofs.faces_at.Given as goal
 
 abbrev pub invariant-loop-i : goal.invariant-loop-i
-invariant-loop-i l = (l.i ≤ l.count) × (l.start ≤ l.at) × (l.at ≤ l.start + 4096 * l.i)
-
-abbrev pub decreases-loop-i : goal.decreases-loop-i
-decreases-loop-i l = l.count - l.i
+invariant-loop-i l = (l.start ≤ l.at) × (l.at ≤ l.start + 4096 * l.i)

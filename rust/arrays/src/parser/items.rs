@@ -4,6 +4,23 @@ use super::{Parser, Read};
 use crate::tokens::Token;
 use crate::tree::{Constant, Definition, File, Function, Parameter, TypeTree, Variant};
 
+/// What is derived: none of these has an array.
+const DERIVED: [&str; 10] = [
+    "Clone",
+    "Copy",
+    "Debug",
+    "Default",
+    "PartialEq",
+    "Eq",
+    "PartialOrd",
+    "Ord",
+    "Hash",
+    "Drop",
+];
+
+/// A type that a call gives, and what it is handed where it is called.
+type Called = (String, Vec<TypeTree>);
+
 impl Parser {
     pub(super) fn file(&mut self) -> Read<File> {
         let mut file = File::default();
@@ -35,8 +52,9 @@ impl Parser {
         }
         if self.takes_word("struct") {
             let name = self.name()?;
+            self.lifetimes()?;
             self.expect("{")?;
-            let fields = self.list("}", Self::field)?;
+            let fields = self.fields()?;
             file.types.push((name, Definition::Struct(fields)));
             return Ok(());
         }
@@ -104,12 +122,17 @@ impl Parser {
         Ok(())
     }
 
-    /// An attribute that changes no code: its name alone, `derive` of copies, or `unsafe(no_mangle)`.
+    /// An attribute that changes no code: its name alone, `derive` of what std writes, of proofs, or `unsafe(no_mangle)`.
     fn attribute(&mut self) -> Read<()> {
         self.expect("[")?;
         let words = match self.name()?.as_str() {
-            "derive" => &["Clone", "Copy"][..],
+            "derive" => &DERIVED[..],
             "unsafe" => &["no_mangle"],
+            "tactic" => {
+                self.expect("(")?;
+                self.past("(", ")")?;
+                return self.expect("]");
+            }
             _ => return self.expect("]"),
         };
         self.expect("(")?;
@@ -139,6 +162,43 @@ impl Parser {
         Ok(false)
     }
 
+    /// Fields; those of proofs alone are passed over.
+    fn fields(&mut self) -> Read<Vec<(String, TypeTree)>> {
+        let mut all = Vec::new();
+        while !self.takes("}") {
+            self.visibility()?;
+            if self.takes_word("ghost") {
+                self.name()?;
+                self.expect(":")?;
+                self.expect("{")?;
+                self.past("{", "}")?;
+            } else {
+                let name = self.name()?;
+                self.expect(":")?;
+                all.push((name, self.type_tree()?));
+            }
+            if !self.takes(",") {
+                self.expect("}")?;
+                break;
+            }
+        }
+        Ok(all)
+    }
+
+    /// To the mark that closes what is open.
+    fn past(&mut self, open: &str, close: &'static str) -> Read<()> {
+        let mut depth = 1;
+        while 0 < depth {
+            if self.peek().is_none() {
+                return self.fail(close);
+            }
+            depth += usize::from(self.sees(open));
+            depth -= usize::from(self.sees(close));
+            self.at += 1;
+        }
+        Ok(())
+    }
+
     fn field(&mut self) -> Read<(String, TypeTree)> {
         self.visibility()?;
         let name = self.name()?;
@@ -147,6 +207,7 @@ impl Parser {
     }
 
     fn variant(&mut self) -> Read<Variant> {
+        self.visibility()?;
         let name = self.name()?;
         let mut fields = Vec::new();
         if self.takes("{") {
@@ -160,11 +221,51 @@ impl Parser {
     }
 
     fn implementation(&mut self, file: &mut File) -> Read<()> {
-        let of = self.name()?;
+        self.lifetimes()?;
+        let mut path = self.path()?;
+        self.passes_brackets()?;
+        let mut public = false;
+        if self.takes_word("for") {
+            public = true;
+            path = self.path()?;
+            self.passes_brackets()?;
+        }
+        let of = path.pop().unwrap_or_default();
         self.expect("{")?;
         while !self.takes("}") {
-            let public = self.visibility()?;
-            self.member(file, Some(&of), public)?;
+            if self.takes_word("ghost") {
+                self.past_ghost()?;
+                continue;
+            }
+            if self.takes_word("type") {
+                self.name()?;
+                self.expect("=")?;
+                self.type_tree()?;
+                self.expect(";")?;
+                continue;
+            }
+            let own = self.visibility()?;
+            self.member(file, Some(&of), own || public)?;
+        }
+        Ok(())
+    }
+
+    /// `ghost use ..;` or `ghost name = { .. };`.
+    fn past_ghost(&mut self) -> Read<()> {
+        if self.sees_word("use") {
+            return self.ghost_use();
+        }
+        self.name()?;
+        self.expect("=")?;
+        self.expect("{")?;
+        self.past("{", "}")?;
+        self.expect(";")
+    }
+
+    /// Types in brackets behind a trait or a type, of which nothing is asked.
+    fn passes_brackets(&mut self) -> Read<()> {
+        if self.takes("<") {
+            self.past("<", ">")?;
         }
         Ok(())
     }
@@ -203,9 +304,18 @@ impl Parser {
     fn function(&mut self, of: Option<String>, public: bool) -> Read<Function> {
         let line = self.line();
         let name = self.name()?;
-        self.lifetimes()?;
+        self.locals.clear();
+        let (length, called) = self.generics()?;
         self.expect("(")?;
-        let parameters = self.list(")", Self::parameter)?;
+        let mut parameters = self.list(")", Self::parameter)?;
+        for parameter in &mut parameters {
+            let TypeTree::Path(path) = &parameter.annotation else {
+                continue;
+            };
+            if let Some((_, handed)) = called.iter().find(|(name, _)| *name == path.concat()) {
+                parameter.annotation = TypeTree::Bound(handed.clone());
+            }
+        }
         let mut result = None;
         if self.takes("->") {
             result = Some(self.type_tree()?);
@@ -217,21 +327,49 @@ impl Parser {
             line,
             public,
             of,
+            length,
+            locals: std::mem::take(&mut self.locals),
             parameters,
             result,
             body,
         })
     }
 
+    /// Lifetimes alone.
     fn lifetimes(&mut self) -> Read<()> {
-        if !self.takes("<") {
-            return Ok(());
+        match self.generics()? {
+            (None, called) if called.is_empty() => Ok(()),
+            _ => self.fail("lifetimes"),
         }
-        while matches!(self.peek(), Some(Token::Lifetime(_))) {
-            self.at += 1;
+    }
+
+    /// Lifetimes, types with their bounds, and the name of a length: that name, and the types with what they are handed.
+    fn generics(&mut self) -> Read<(Option<String>, Vec<Called>)> {
+        let (mut length, mut called) = (None, Vec::new());
+        if !self.takes("<") {
+            return Ok((length, called));
+        }
+        while !self.takes(">") {
+            if matches!(self.peek(), Some(Token::Lifetime(_))) {
+                self.at += 1;
+            } else if self.takes_word("const") {
+                if length.is_some() {
+                    return self.fail("one length");
+                }
+                length = Some(self.name()?);
+                self.expect(":")?;
+                self.type_tree()?;
+            } else {
+                let name = self.name()?;
+                let mut handed = Vec::new();
+                if self.takes(":") {
+                    handed = self.bound()?;
+                }
+                called.push((name, handed));
+            }
             self.takes(",");
         }
-        self.expect(">")
+        Ok((length, called))
     }
 
     /// `self`, `mut self`, `&self`, `&mut self`, or a name with its type.
@@ -240,6 +378,7 @@ impl Parser {
         let lent = self.takes("&");
         let mutable = self.takes_word("mut");
         let name = self.name()?;
+        self.locals.insert(name.clone());
         let own = TypeTree::Path(vec!["Self".into()]);
         let annotation = if lent {
             if name != "self" {
@@ -263,22 +402,13 @@ impl Parser {
     }
 
     /// `requires` and `ensures`, passed over by their braces.
-    fn clauses(&mut self) -> Read<()> {
+    pub(super) fn clauses(&mut self) -> Read<()> {
         while self.takes_word("requires") || self.takes_word("ensures") {
             if matches!(self.peek(), Some(Token::Name(_))) {
                 self.at += 1;
             }
             self.expect("{")?;
-            let mut open = 1;
-            while 0 < open {
-                match self.peek() {
-                    Some(Token::Mark("{")) => open += 1,
-                    Some(Token::Mark("}")) => open -= 1,
-                    Some(_) => {}
-                    None => return self.fail("}"),
-                }
-                self.at += 1;
-            }
+            self.past("{", "}")?;
         }
         Ok(())
     }

@@ -33,22 +33,26 @@ impl Parser {
 
     fn binding(&mut self) -> Read<Let> {
         let line = self.line();
-        self.takes_word("mut");
-        let name = self.name()?;
+        let pattern = self.pattern()?;
         let mut annotation = None;
         if self.takes(":") {
             annotation = Some(self.type_tree()?);
         }
         let mut value = None;
+        let mut other = None;
         if self.takes("=") {
             value = Some(self.expression()?);
+            if self.takes_word("else") {
+                other = Some(self.block()?);
+            }
         }
         self.expect(";")?;
         Ok(Let {
             line,
-            name,
+            pattern,
             annotation,
             value,
+            other,
         })
     }
 
@@ -69,11 +73,11 @@ impl Parser {
 
     /// Whether what stands here ends with its own block.
     fn sees_formed(&self) -> bool {
-        let words = ["if", "match", "while"];
+        let words = ["if", "match", "while", "for"];
         self.sees("{") || words.iter().any(|w| self.sees_word(w))
     }
 
-    /// `if`, `match`, `while` or a block.
+    /// `if`, `match`, `while`, `for` or a block.
     pub(super) fn formed(&mut self) -> Read<Expr> {
         let line = self.line();
         let kind = if self.takes_word("if") {
@@ -86,6 +90,13 @@ impl Parser {
                 arms.push(self.arm()?);
             }
             Kind::Match(of, arms)
+        } else if self.takes_word("for") {
+            let pattern = self.pattern()?;
+            if !self.takes_word("in") {
+                return self.fail("in");
+            }
+            let of = Box::new(self.head()?);
+            Kind::For(pattern, of, self.block()?)
         } else if self.takes_word("while") {
             let test = Box::new(self.head()?);
             Kind::While(test, self.block()?)
@@ -110,6 +121,10 @@ impl Parser {
 
     fn arm(&mut self) -> Read<Arm> {
         let pattern = self.pattern()?;
+        let mut test = None;
+        if self.takes_word("if") {
+            test = Some(self.expression()?);
+        }
         self.expect("=>")?;
         let block = self.sees("{");
         let value = if block {
@@ -120,10 +135,33 @@ impl Parser {
         if !self.takes(",") && !block && !self.sees("}") {
             return self.fail(",");
         }
-        Ok(Arm { pattern, value })
+        Ok(Arm {
+            pattern,
+            test,
+            value,
+        })
     }
 
-    fn pattern(&mut self) -> Read<Pattern> {
+    pub(super) fn pattern(&mut self) -> Read<Pattern> {
+        let mut all = vec![self.one_pattern()?];
+        while self.takes("|") {
+            all.push(self.one_pattern()?);
+        }
+        if all.len() == 1 {
+            return Ok(all.remove(0));
+        }
+        Ok(Pattern::Either(all))
+    }
+
+    /// One of those that `|` parts.
+    pub(super) fn one_pattern(&mut self) -> Read<Pattern> {
+        if self.takes("&") {
+            return Ok(Pattern::Behind(Box::new(self.one_pattern()?)));
+        }
+        if self.takes("(") {
+            return Ok(Pattern::Parts(self.list(")", Self::pattern)?));
+        }
+        self.takes_word("mut");
         if self.takes_word("_") {
             return Ok(Pattern::Any);
         }
@@ -131,6 +169,9 @@ impl Parser {
             return Ok(Pattern::Value);
         }
         if self.takes_number()?.is_some() {
+            if self.takes("..=") || self.takes("..") {
+                self.takes_number()?;
+            }
             return Ok(Pattern::Value);
         }
         let path = self.path()?;
@@ -138,12 +179,30 @@ impl Parser {
             return Ok(Pattern::Tuple(path, self.list(")", Self::pattern)?));
         }
         if self.takes("{") {
-            return Ok(Pattern::Struct(path, self.list("}", Self::field_pattern)?));
+            return Ok(Pattern::Struct(path, self.field_patterns()?));
         }
         if path.len() == 1 {
+            self.locals.insert(path.concat());
             return Ok(Pattern::Name(path.concat()));
         }
         Ok(Pattern::Path(path))
+    }
+
+    /// Fields by their names; `..` at the end stands for the others.
+    fn field_patterns(&mut self) -> Read<Vec<(String, Pattern)>> {
+        let mut all = Vec::new();
+        while !self.takes("}") {
+            if self.takes("..") {
+                self.expect("}")?;
+                break;
+            }
+            all.push(self.field_pattern()?);
+            if !self.takes(",") {
+                self.expect("}")?;
+                break;
+            }
+        }
+        Ok(all)
     }
 
     fn field_pattern(&mut self) -> Read<(String, Pattern)> {
@@ -151,6 +210,7 @@ impl Parser {
         if self.takes(":") {
             return Ok((name, self.pattern()?));
         }
+        self.locals.insert(name.clone());
         Ok((name.clone(), Pattern::Name(name)))
     }
 }

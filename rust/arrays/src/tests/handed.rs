@@ -46,26 +46,25 @@ fn rows_that_are_handed_over_and_loaded() {
         CURSOR,
         "step",
         "job: &[u8]",
-        "job: &[u8], table: [[u32; 5]; 64]",
+        "job: &[u8], table: [matching::rows::Row; 64]",
     );
     let old = "call::offer_at(job, reading, self.request, self.next)";
-    let new = "call::answer_found(job, reading, \
-        call::search_with(job, reading, &mut table, self.request, self.next))";
+    let new = "call::search_with(job, reading, &mut table, self.request, self.next)";
     planted.change(CURSOR, "step", old, new).finds_nothing();
 }
 
 #[test]
 fn a_list_handed_to_the_function_that_chooses_last() {
     let item = "
-fn chosen_of(family: [Row; 64], count: usize, request: Request) -> usize {
-    let own = [0u8; 0];
-    stages::choose(&family, &own, count, request)
+fn chosen_of(rows: [Row; 64], count: usize, request: Request) -> Option<usize> {
+    FamilyRows { rows: &rows, members: &[], count }.choose(request)
 }
 ";
-    let old = "stages::choose(&rows, &own, count, request_of(attributes, synthesize_style))";
-    let new = "chosen_of(rows, count, request_of(attributes, synthesize_style))";
+    let old = "choose(&fonts, count, request, synthesize_style, &mut rows)";
+    let new = "take_family(&fonts, count, request, &mut rows)?;
+        Ok(chosen_of(rows, count, request_of(request, synthesize_style)))";
     let planted = real().change("matching/matching", "match_font", old, new);
     planted
         .with("matching/matching", item)
-        .finds("matching::matching::chosen_of", "`family`: [[u32; 5]; 64]");
+        .finds("matching::matching::chosen_of", "`rows`: [Row; 64]");
 }

@@ -3,15 +3,18 @@
 use super::real;
 
 const STAGES: &str = "matching/stages";
-const BEARER: &str = "let bearer = rank::place_of(best);";
+const STYLE: &str = "let style = ";
+
+/// Where the default is chosen.
+const DEFAULT: &str = "self.choose(request)";
 
 /// On no way, a function of the stages with the value is found, by what it uses.
 fn found(value: &str, used: &str) {
     let item = format!(
         "
-fn other(rows: &[Row], members: &[u8], count: usize, request: Request) -> usize {{
+fn other(family: FamilyRows, face: Row, request: Request) -> usize {{
     let kept = {value};
-    count
+    0
 }}
 "
     );
@@ -23,24 +26,27 @@ fn other(rows: &[Row], members: &[u8], count: usize, request: Request) -> usize 
 #[test]
 fn a_stage() {
     for (call, stage) in [
-        ("width_stage(rows, members, count, request)", "width_stage"),
-        ("slant_at(rows, members, count, 100, request)", "slant_at"),
+        ("width_rank(request, face, 0)", "stages::width_rank"),
         (
-            "style_stage(rows, members, count, 100, false, request)",
-            "style_stage",
+            "family.slant_at(100, request)",
+            "rows::FamilyRows::slant_at",
         ),
         (
-            "weight_stage(rows, members, count, 100, 0, request)",
-            "weight_stage",
+            "style_rank(request, 100, false, face, 0)",
+            "stages::style_rank",
         ),
+        (
+            "weight_rank(request, 100, 0, face, 0)",
+            "stages::weight_rank",
+        ),
+        ("family.least(|face, place| 0)", "rows::FamilyRows::least"),
     ] {
-        found(call, &format!("matching::stages::{stage}"));
+        found(call, &format!("matching::{stage}"));
     }
-    let at = "let place = choose(rows, members, count, request);";
-    let again = "let other = slant_at(rows, members, count, 100, request);";
-    let planted = real().before(STAGES, "default_place", at, again);
+    let again = "let other = self.slant_at(100, request);";
+    let planted = real().before(STAGES, "default_place", DEFAULT, again);
     planted.finds(
-        "matching::stages::default_place",
+        "matching::rows::FamilyRows::default_place",
         "slant_at is used outside the choice",
     );
 }
@@ -48,13 +54,10 @@ fn a_stage() {
 #[test]
 fn a_rank() {
     for (value, used) in [
-        ("width_rank(100, 90, 0)", "stages::width_rank"),
-        (
-            "style_rank(true, true, request, 0, 0)",
-            "stages::style_rank",
-        ),
-        ("weight_rank(true, true, 0, 0, 0)", "stages::weight_rank"),
-        ("rank::lower(0, 1)", "rank::lower"),
+        ("rank::pack(width_rank, 0)", "stages::width_rank"),
+        ("rank::pack(style_rank, 0)", "stages::style_rank"),
+        ("rank::pack(weight_rank, 0)", "stages::weight_rank"),
+        ("rank::pack(0, 1)", "rank::pack"),
         ("rank::place_of(0)", "rank::place_of"),
         ("rank::NOWHERE", "rank::NOWHERE"),
         ("rank::Standing::Up(0, 0)", "rank::Standing::Up"),
@@ -76,10 +79,10 @@ fn a_rank() {
 #[test]
 fn a_standing_of_plain_numbers() {
     let item = "\npub(crate) fn size_standing(size: u32) -> u32 {\n    size\n}\n";
-    let at = "let place = choose(rows, members, count, request);";
-    let planted = real().before(STAGES, "default_place", at, "order::size_standing(9);");
+    let standing = "order::size_standing(9);";
+    let planted = real().before(STAGES, "default_place", DEFAULT, standing);
     planted.with("matching/order", item).finds(
-        "matching::stages::default_place",
+        "matching::rows::FamilyRows::default_place",
         "matching::order::size_standing is used outside the choice",
     );
 }
@@ -87,25 +90,24 @@ fn a_standing_of_plain_numbers() {
 #[test]
 fn a_struct_of_ranks() {
     let item = "\npub(crate) struct Best {\n    pub rank: u64,\n}\n";
-    let at = "let place = choose(rows, members, count, request);";
     let best = "let best = rank::Best { rank: 0 };";
-    let planted = real().before(STAGES, "default_place", at, best);
+    let planted = real().before(STAGES, "default_place", DEFAULT, best);
     planted.with("matching/rank", item).finds(
-        "matching::stages::default_place",
+        "matching::rows::FamilyRows::default_place",
         "matching::rank::Best is used outside the choice",
     );
 }
 
 #[test]
 fn behind_the_last_choice() {
-    let at = "let list = stages::equal_places(&rows, count, place);";
-    let ranked = "let least = crate::rank::lower(0, 1);";
+    let at = "Ok(family.equal_places(";
+    let ranked = "let least = crate::rank::place_of(0);";
     let planted = real().before("matching/matching", "match_fonts", at, ranked);
     planted.finds(
         "matching::matching::match_fonts",
-        "matching::rank::lower is used outside the choice",
+        "matching::rank::place_of is used outside the choice",
     );
-    let at = "let offer = found.offer;";
+    let at = "let font = ";
     let ranked = "let turn = matching::order::weight_standing(0, 1);";
     let planted = real().before("query/call", "answer_found", at, ranked);
     planted.finds(
@@ -117,19 +119,18 @@ fn behind_the_last_choice() {
 #[test]
 fn through_a_function_of_the_choice() {
     let item = "
-fn least(rows: &[Row], members: &[u8], count: usize, request: Request) -> u64 {
-    width_rank(request.percent, 100, 0)
+fn turned(family: FamilyRows, request: Request) -> u64 {
+    rank::pack(order::width_standing(request.percent, 100), 0)
 }
 ";
-    let call = "let again = least(rows, members, count, request);";
-    let inside = real().before(STAGES, "choose", BEARER, call);
+    let call = "let again = turned(self, request);";
+    let inside = real().before(STAGES, "choose", STYLE, call);
     let inside = inside.with(STAGES, item);
     inside.finds_nothing();
-    let at = "let place = choose(rows, members, count, request);";
-    let outside = inside.before(STAGES, "default_place", at, call);
+    let outside = inside.before(STAGES, "default_place", DEFAULT, call);
     outside.finds(
-        "matching::stages::default_place",
-        "matching::stages::least is used outside the choice",
+        "matching::rows::FamilyRows::default_place",
+        "matching::stages::turned is used outside the choice",
     );
 }
 
@@ -142,8 +143,8 @@ impl Standing {
     }
 }
 ";
-    let at = "let mut families = [0u32; 0];";
-    let planted = real().before("query/job", "check", at, "let first = job.is_first();");
+    let first = "let first = job.is_first();";
+    let planted = real().before("query/job", "check", "walk(job", first);
     planted.with("matching/rank", item).finds(
         "query::job::check",
         "matching::rank::Standing::is_first is used outside the choice",
@@ -154,11 +155,11 @@ impl Standing {
 fn by_other_crates() {
     let planted = real().change(STAGES, "width_rank", "fn width_rank(", "pub fn width_rank(");
     planted.finds_nothing_but("matching::stages::width_rank: other crates can choose by it");
-    let item = "\npub fn least(a: u64, b: u64) -> u64 {\n    rank::lower(a, b)\n}\n";
+    let item = "\npub fn least(a: u64) -> usize {\n    rank::place_of(a)\n}\n";
     let planted = real().with(STAGES, item);
     planted.finds(
         "matching::stages::least",
-        "matching::rank::lower is used outside the choice",
+        "matching::rank::place_of is used outside the choice",
     );
 }
 
@@ -167,10 +168,7 @@ fn by_ranks_of_another_name() {
     let mut planted = real();
     for source in &mut planted.sources {
         source.text = source.text.replace("rank::", "turns::");
-        source.text = source.text.replace(
-            "{matching, order, rank, rows}",
-            "{matching, order, turns, rows}",
-        );
+        source.text = source.text.replace(", rank}", ", turns}");
         if source.module == "rank" {
             source.module = "turns".into();
         }

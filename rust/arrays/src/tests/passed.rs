@@ -6,7 +6,7 @@ const LIST: &str = "let mut kept = [0u8; 64];";
 
 #[test]
 fn an_array_in_a_function_on_no_way() {
-    let planted = real().before("query/job", "check", "let mut families", LIST);
+    let planted = real().before("query/job", "check", "walk(job", LIST);
     planted.finds_nothing();
     let planted = real().before("matching/stages", "equal_places", "let mut places", LIST);
     planted.finds_nothing();
@@ -14,11 +14,10 @@ fn an_array_in_a_function_on_no_way() {
 
 #[test]
 fn an_array_of_16_in_one_face() {
-    let at = "rows[place] = rows::face_row(font);";
     let planted = real().before(
         "matching/matching",
-        "take_face",
-        at,
+        "take_faces",
+        "rows[place] = ",
         "let axes = font.axes;",
     );
     planted.finds_nothing();
@@ -27,54 +26,44 @@ fn an_array_of_16_in_one_face() {
 #[test]
 fn an_array_in_a_block_that_ended_before() {
     let block = "if 1 < count { let mut kept = [0u8; 64]; kept[0] = 1; }";
-    let at = "let mut rows = [[0u32; COLUMNS]; 64];";
-    let planted = real().before("matching/matching", "match_font", at, block);
+    let planted = real().before("matching/matching", "match_font", "let mut rows = ", block);
     planted.finds_nothing();
-    let at = "let mut families = [loading::NOWHERE; 64];";
     let block = "{ let mut kept = [0u8; 64]; kept[0] = 1; }";
-    let planted = real().before("query/call", "search_with", at, block);
+    let planted = real().before("query/call", "search_with", "let mut families = ", block);
     planted.finds_nothing();
 }
 
 #[test]
 fn an_answer_that_is_made_after_the_choice() {
-    let planted = real().before(
-        "matching/matching",
-        "match_font",
-        "if place < count {",
-        LIST,
-    );
+    let call = "choose(&fonts, count, request, synthesize_style, &mut rows)";
+    let kept = format!("let chosen = {call};\n    {LIST}\n    chosen");
+    let planted = real().change("matching/matching", "match_font", call, &kept);
     planted.finds_nothing();
-    let planted = real().before(
-        "query/call",
-        "answer_found",
-        "let offer = found.offer;",
-        LIST,
-    );
+    let planted = real().before("query/call", "answer_found", "let font = ", LIST);
     planted.finds_nothing();
 }
 
 #[test]
 fn an_array_where_the_function_is_left_without_a_choice() {
-    let at = "return no_offer(walked.refusal as u32);";
-    let planted = real().before("query/call", "search_with", at, LIST);
+    let left = "Err(refused.refusal)";
+    let block = format!("{{ {LIST} {left} }}");
+    let planted = real().change("query/call", "search_with", left, &block);
     planted.finds_nothing();
 }
 
 #[test]
 fn an_answer_of_the_function_that_chooses() {
     let items = "
-fn listed(rows: &[Row; 64], count: usize, request: Request) -> Places {
-    let own = [0u8; 0];
-    let place = stages::choose(rows, &own, count, request);
-    stages::equal_places(rows, count, place)
+fn listed(family: FamilyRows, request: Request) -> Places {
+    let place = family.choose(request);
+    family.equal_places(place)
 }
-fn relayed(rows: &[Row; 64], count: usize, request: Request) -> Places {
-    listed(rows, count, request)
+fn relayed(family: FamilyRows, request: Request) -> Places {
+    listed(family, request)
 }
 ";
-    let at = "let list = stages::equal_places(&rows, count, place);";
-    let call = "let list = relayed(&rows, count, request_of(attributes, synthesize_style));";
+    let at = "family.equal_places(chosen)";
+    let call = "relayed(family, request_of(request, synthesize_style))";
     let planted = real().change("matching/matching", "match_fonts", at, call);
     planted.with("matching/matching", items).finds_nothing();
 }

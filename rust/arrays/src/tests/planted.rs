@@ -9,9 +9,18 @@ const FAMILIES: &str = "query/families";
 const OFFERS: &str = "query/offers";
 
 /// Where the rows of faces by value are declared, and where a family of a job is chosen from.
-const ROWS: &str = "let mut rows = [[0u32; COLUMNS]; 64];";
-const CHOSEN: &str = "let chosen = stages::choose(rows, members, count, request);";
-const BEARER: &str = "let bearer = rank::place_of(best);";
+const ROWS: &str = "let mut rows = [Row::BLANK; 64];";
+const CHOSEN: &str = "let chosen = ";
+
+/// Where the rows of a job are loaded, and what comes behind.
+const LOAD: &str = "match loading::load(";
+const LOADED: &str = "if (request as usize)";
+
+/// What is between the style and the weight.
+const STYLE: &str = "let style = ";
+
+/// The choice itself.
+const CHOICE: &str = "matching::rows::FamilyRows::choose";
 
 /// On the job's way, where only the one list is alive: more before the choice.
 fn before_choice(new: &str) -> Planted {
@@ -24,7 +33,7 @@ fn found_before_choice(new: &str, words: &str) {
 
 /// Between the style and the weight.
 fn between(new: &str) -> Planted {
-    real().before(STAGES, "choose", BEARER, new)
+    real().before(STAGES, "choose", STYLE, new)
 }
 
 #[test]
@@ -52,27 +61,16 @@ fn a_second_array_beside_the_rows_of_faces_by_value() {
 
 #[test]
 fn a_copy_of_the_candidates_between_style_and_weight() {
-    let copy = "let mut kept = [[0u32; 5]; 64];
-        let mut k: usize = 0;
-        while k < count {
-            kept[k] = rows::place_row(rows, members, k);
-            k += 1;
+    let copy = "let mut kept = [Row::BLANK; 64];
+        for k in 0..self.count {
+            kept[k] = self.row(k);
         }";
     let planted = between(copy);
-    planted.finds(
-        "matching::stages::choose",
-        "`kept`: [[u32; 5]; 64] is an array in the choice",
-    );
-    planted.finds(
-        "matching::stages::choose",
-        "`kept` is written in the choice",
-    );
-    planted.finds(
-        "matching::stages::choose",
-        "`kept`: [[u32; 5]; 64] (crates/matching/src/stages.rt:",
-    );
+    planted.finds(CHOICE, "`kept`: [Row; 64] is an array in the choice");
+    planted.finds(CHOICE, "`kept` is written in the choice");
+    planted.finds(CHOICE, "`kept`: [Row; 64] (crates/matching/src/stages.rt:");
     let lines = crate::check(&planted.sources).lines;
-    let counted = "5 loops, 1 arrays made, 1 writes of entries, at most 69 entries alive";
+    let counted = "3 loops, 1 arrays made, 1 writes of entries, at most 64 entries alive";
     let choice = lines.iter().find(|l| l.starts_with("choice: "));
     assert!(choice.is_some_and(|l| l.ends_with(counted)), "{choice:?}");
 }
@@ -86,7 +84,7 @@ fn remaining(members: &[u8], count: usize) -> usize {
     count
 }
 ";
-    let planted = between("let left = remaining(members, count);").with(STAGES, helper);
+    let planted = between("let left = remaining(self.members, self.count);").with(STAGES, helper);
     planted.finds(
         "matching::stages::remaining",
         "`kept`: [u8; 64] is an array in the choice",
@@ -100,61 +98,41 @@ fn remaining(members: &[u8], count: usize) -> usize {
 #[test]
 fn short_arrays_in_the_choice() {
     let made = between("let kept = [0u8; 5];");
-    made.finds(
-        "matching::stages::choose",
-        "an array [u8; 5] is made in the choice",
-    );
+    made.finds(CHOICE, "an array [u8; 5] is made in the choice");
     let listed = between("let kept = [percent, percent];");
-    listed.finds(
-        "matching::stages::choose",
-        "an array [u32; 2] is made in the choice",
-    );
-    let two = "let one = rows::place_row(rows, members, 0);
-        let other = rows::place_row(rows, members, 1);";
-    between(two).finds(
-        "matching::stages::choose",
-        "`other`: [u32; 5] is an array in the choice",
-    );
+    listed.finds(CHOICE, "an array [u32; 2] is made in the choice");
+    let two = between("let one = NUMBERS;\n    let other = NUMBERS;");
+    let item = "\nconst NUMBERS: [u32; 5] = [0u32; 5];\n";
+    two.with(STAGES, item)
+        .finds(CHOICE, "`other`: [u32; 5] is an array in the choice");
     let lent = between("let left = remaining(&[0u8; 2]);");
     let lent = lent.with(
         STAGES,
         "\nfn remaining(kept: &[u8]) -> usize { kept.len() }\n",
     );
-    lent.finds(
-        "matching::stages::choose",
-        "an array [u8; 2] is made in the choice",
-    );
+    lent.finds(CHOICE, "an array [u8; 2] is made in the choice");
 }
 
 #[test]
 fn an_array_written_in_the_weight_stage() {
-    let at = "let width = face[rows::PERCENT] == percent;";
-    let planted = real().before(STAGES, "weight_stage", at, "face[0] = 0;");
-    planted.finds(
-        "matching::stages::weight_stage",
-        "`face` is written in the choice",
+    let item = "\nconst NUMBERS: [u32; 5] = [0u32; 5];\n";
+    let kept = "let mut kept = NUMBERS;\n    kept[0] = 0;";
+    let planted = real().before(STAGES, "weight_rank", "if face.", kept);
+    planted.with(STAGES, item).finds(
+        "matching::stages::weight_rank",
+        "`kept` is written in the choice",
     );
-    let lent = real().change(
-        STAGES,
-        "weight_stage",
-        "members: &[u8]",
-        "members: &mut [u8]",
-    );
+    let lent = real().change(STAGES, "weight_rank", "face: Row", "face: &mut [u8]");
     lent.finds(
-        "matching::stages::weight_stage",
-        "`members` lends an array to be written",
+        "matching::stages::weight_rank",
+        "`face` lends an array to be written",
     );
     let item = "\npub struct Kept {\n    pub places: [u8; 64],\n}\n";
-    let held = real().change(
-        STAGES,
-        "weight_stage",
-        "members: &[u8]",
-        "members: &mut Kept",
-    );
+    let held = real().change(STAGES, "weight_rank", "face: Row", "face: &mut Kept");
     let held = held.with(STAGES, item);
     held.finds(
-        "matching::stages::weight_stage",
-        "`members` lends an array to be written",
+        "matching::stages::weight_rank",
+        "`face` lends an array to be written",
     );
 }
 
@@ -173,13 +151,13 @@ enum Noted {
     All([u8; 64]),
 }
 ";
-    let in_struct = "let outer = Outer { kept: Kept { places: [0u8; 64] }, count };";
+    let in_struct = "let outer = Outer { kept: Kept { places: [0u8; 64] }, count: n };";
     let planted = before_choice(in_struct).with(FAMILIES, items);
     planted.finds("query::families::family_offer", "`outer`: Outer");
     let in_enum = before_choice("let noted = Noted::Nothing;").with(FAMILIES, items);
     in_enum.finds("query::families::family_offer", "`noted`: Noted");
     let bound = "match Noted::All([0u8; 64]) {
-        Noted::All(places) => { default_offer(rows, members, count, 0, n); }
+        Noted::All(places) => { default_offer(family, None, n); }
         Noted::Nothing => {}
     }";
     let planted = before_choice(bound).with(FAMILIES, items);
@@ -188,9 +166,9 @@ enum Noted {
 
 #[test]
 fn more_than_64_entries() {
-    let longer = "let mut rows = [[0u32; COLUMNS]; 65];";
+    let longer = "let mut rows = [Row::BLANK; 65];";
     let planted = real().change(MATCHING, "match_font", ROWS, longer);
-    let words = "`rows`: [[u32; 5]; 65] (crates/matching/src/matching.rt:";
+    let words = "`rows`: [Row; 65] (crates/matching/src/matching.rt:";
     planted.finds("matching::matching::match_font", words);
     planted.finds("matching::matching::match_font", "has more than 64 entries");
 }
@@ -254,52 +232,44 @@ fn a_length_in_another_base() {
 #[test]
 fn an_array_by_value_handed_on() {
     let item = "\nfn counted(family: [Row; 64], count: usize) -> usize {\n    count\n}\n";
-    let at = "let own = [0u8; 0];";
+    let at = "choose(&fonts";
     let planted = real().before(MATCHING, "match_font", at, "let n = counted(rows, count);");
     let planted = planted.with(MATCHING, item);
-    planted.finds("matching::matching::counted", "`family`: [[u32; 5]; 64]");
-    let family = real().before(
-        MATCHING,
-        "match_font",
-        at,
-        "let n = faces_refusal(fonts, count);",
-    );
-    family.finds(
-        "matching::matching::faces_refusal",
-        "`fonts`: [FontInfo; 64]",
-    );
+    planted.finds("matching::matching::counted", "`family`: [Row; 64]");
+    let item = "\nfn counted(fonts: [FontInfo; 64], count: usize) -> usize {\n    count\n}\n";
+    let family = real().before(MATCHING, "match_font", at, "let n = counted(fonts, count);");
+    let family = family.with(MATCHING, item);
+    family.finds("matching::matching::counted", "`fonts`: [FontInfo; 64]");
 }
 
 #[test]
 fn a_copy_of_the_family() {
     let planted = real().behind(MATCHING, "match_font", ROWS, "let copy = fonts;");
     planted.finds("matching::matching::match_font", "`copy`: [FontInfo; 64]");
-    let at =
-        "let walked = loading::load(job, reading, &mut *rows, &mut families, request as usize);";
-    let lent = "let copy = [[0u32; 5]; 64];";
-    let planted = real().behind(CALL, "search_with", at, lent);
-    planted.finds("query::call::search_with", "`copy`: [[u32; 5]; 64]");
+    let copy = "let copy = [Row::BLANK; 64];";
+    let planted = real().before(CALL, "search_with", LOADED, copy);
+    planted.finds("query::call::search_with", "`copy`: [Row; 64]");
 }
 
 #[test]
 fn an_array_in_a_block_an_arm_or_a_loop() {
-    let call = "stages::choose(rows, members, count, request)";
+    let call = "family.choose(request)";
     let block = format!("{{ let kept = [0u8; 64]; {call} }}");
     let planted = real().change(FAMILIES, "family_offer", call, &block);
     planted.finds("query::families::family_offer", "`kept`: [u8; 64]");
-    let at = "let fallbacks = named";
-    let arm = real().before(OFFERS, "request_offer", at, "let kept = [0u8; 64];");
-    arm.finds("query::offers::request_offer", "`kept`: [u8; 64]");
-    let behind = real().before(OFFERS, "list_offer", "k += 1;", "let kept = [0u8; 64];");
-    behind.finds("query::offers::list_offer", "`kept`: [u8; 64]");
+    let kept = "let kept = [0u8; 64];";
+    let arm = real().before(OFFERS, "request_offer", "let fallbacks = ", kept);
+    arm.finds("query::offers::Search::request_offer", "`kept`: [u8; 64]");
+    let behind = real().before(OFFERS, "list_offer", "left = past", kept);
+    behind.finds("query::offers::Search::list_offer", "`kept`: [u8; 64]");
 }
 
 #[test]
 fn an_array_behind_the_choice_and_before_the_next() {
-    let planted = real().behind(FAMILIES, "family_offer", CHOSEN, "let listing = [0u8; 64];");
+    let listing = "let listing = [0u8; 64];";
+    let planted = real().before(FAMILIES, "family_offer", "match held_equal(", listing);
     planted.finds("query::families::family_offer", "`listing`: [u8; 64]");
-    let at = "let wanted = rows::place_row(rows, members, chosen);";
-    let planted = real().before(FAMILIES, "held_equal", at, "let listing = [0u8; 64];");
+    let planted = real().before(FAMILIES, "held_equal", "let mut left = ", listing);
     planted.finds("query::families::held_equal", "`listing`: [u8; 64]");
 }
 
@@ -308,7 +278,7 @@ fn arrays_of_numbers_in_place_of_rows() {
     let numbers = "let mut percents = [0u32; 64];
         let mut styles = [0u32; 64];
         let mut weights = [0u32; 64];
-        let mut rows = [[0u32; COLUMNS]; 0];";
+        let mut rows = [Row::BLANK; 0];";
     let planted = real().change(MATCHING, "match_fonts", ROWS, numbers);
     planted.finds("matching::matching::match_fonts", "`styles`: [u32; 64]");
     planted.finds("matching::matching::match_fonts", "`weights`: [u32; 64]");
@@ -316,8 +286,8 @@ fn arrays_of_numbers_in_place_of_rows() {
 
 #[test]
 fn an_array_without_a_name() {
-    let call = "stages::choose(rows, members, count, request)";
-    let lent = "stages::choose(rows, &[0u8; 128], count, request)";
+    let call = "family.choose(request)";
+    let lent = "FamilyRows { members: &[0u8; 128], ..family }.choose(request)";
     let planted = real().change(FAMILIES, "family_offer", call, lent);
     planted.finds(
         "query::families::family_offer",
@@ -341,21 +311,20 @@ fn an_array_without_a_name() {
 
 #[test]
 fn a_loaded_family_that_is_written() {
-    let at = "if walked.refusal != 0 {";
-    let planted = real().before(CALL, "search_with", at, "rows[0] = [0u32; 5];");
+    let planted = real().before(CALL, "search_with", LOADED, "rows[0] = Row::BLANK;");
     planted.finds(
         "query::call::search_with",
         "`rows` writes the family `rows`",
     );
-    let item = "\nfn spoil(table: &mut [Row]) {\n    table[0][1] = 0;\n}\n";
+    let item = "\nfn spoil(table: &mut [Row]) {\n    table[0].marks = 0;\n}\n";
     let far = real()
-        .before(CALL, "search_with", at, "spoil(&mut *rows);")
+        .before(CALL, "search_with", LOADED, "spoil(&mut *rows);")
         .with(CALL, item);
     far.finds("query::call::spoil", "`table` writes the family `rows`");
     let item = "\nfn relay<'a>(table: &'a mut [Row]) -> &'a mut [Row] {\n    table\n}\n";
-    let again = "let again = relay(&mut *rows);\n    again[0][1] = 0;";
+    let again = "let again = relay(&mut *rows);\n    again[0].marks = 0;";
     let relayed = real()
-        .before(CALL, "search_with", at, again)
+        .before(CALL, "search_with", LOADED, again)
         .with(CALL, item);
     relayed.finds(
         "query::call::search_with",
@@ -365,18 +334,14 @@ fn a_loaded_family_that_is_written() {
 
 #[test]
 fn a_family_that_is_more() {
-    let at = "let mut rows = [[0u32; COLUMNS]; 256];";
-    let longer = "let mut rows = [[0u32; COLUMNS]; 257];";
-    let planted = real().change(CALL, "answer_many", at, longer);
-    planted.finds("query::call::answer_many", "is not one list of up to 256");
-    let swapped = "let mut other = [[0u32; COLUMNS]; 64];
-        let walked = loading::load(job, reading, &mut other, &mut families, request as usize);";
-    let at =
-        "let walked = loading::load(job, reading, &mut *rows, &mut families, request as usize);";
-    let planted = real().change(CALL, "search_with", at, swapped);
+    let planted = real().change(CALL, "offer_at", "::<256>", "::<257>");
+    planted.finds("query::call::answer_with", "is not one list of up to 256");
+    let swapped = "let mut other = [Row::BLANK; 64];";
+    let planted = real().before(CALL, "search_with", LOAD, swapped);
+    let planted = planted.change(CALL, "search_with", "&mut *rows", "&mut other");
     planted.finds(
         "query::call::search_with",
-        "beside the family: `rows` of query::call::answer_few, `families`",
+        "beside the family: `rows` of query::call::answer_with, `families`",
     );
 }
 
@@ -391,18 +356,18 @@ fn a_family_by_value_that_is_written() {
 
 #[test]
 fn an_array_behind_the_choice_in_a_loop() {
-    let at =
-        "let place = stages::choose(&rows, &own, count, request_of(attributes, synthesize_style));";
-    let call = at.trim_start_matches("let ");
-    let looped = format!(
-        "let mut place: usize = 0;
-        while place < count {{
-            {call}
-            let kept = [0u8; 64];
-        }}"
-    );
-    let planted = real().change(MATCHING, "match_font", at, &looped);
-    planted.finds("matching::matching::match_font", "`kept`: [u8; 64]");
+    let call = "choose(&fonts, count, request, synthesize_style, &mut rows)";
+    for head in ["while 1 < count", "for place in 0..count"] {
+        let looped = format!(
+            "{head} {{
+                let place = {call};
+                let kept = [0u8; 64];
+            }}
+            Ok(None)"
+        );
+        let planted = real().change(MATCHING, "match_font", call, &looped);
+        planted.finds("matching::matching::match_font", "`kept`: [u8; 64]");
+    }
 }
 
 #[test]
@@ -412,8 +377,7 @@ fn a_function_with_an_array_where_another_is_alive() {
     let alone = real().before(CALL, "search_with", at, "let first = scratch();");
     let alone = alone.with(CALL, item);
     alone.finds_nothing();
-    let walked = "if walked.refusal != 0 {";
-    let both = alone.before(CALL, "search_with", walked, "let second = scratch();");
+    let both = alone.before(CALL, "search_with", LOADED, "let second = scratch();");
     both.finds("query::call::scratch", "`kept`: [u8; 64]");
 }
 
@@ -428,11 +392,9 @@ fn an_array_that_a_reference_keeps() {
 
 #[test]
 fn two_families_at_once() {
-    let at =
-        "let walked = loading::load(job, reading, &mut *rows, &mut families, request as usize);";
-    let other = "let mut other = [[0u32; COLUMNS]; 64];
+    let other = "let mut other = [Row::BLANK; 64];
         let first = loading::load(job, reading, &mut other, &mut families, request as usize);";
-    let planted = real().before(CALL, "search_with", at, other);
+    let planted = real().before(CALL, "search_with", LOAD, other);
     planted.finds("query::call::offer", "two families are alive at `other`");
     let more = real().change(
         MATCHING,
@@ -446,8 +408,8 @@ fn two_families_at_once() {
     );
 }
 
-const BY_VALUE: &str =
-    "stages::choose(&rows, &own, count, request_of(attributes, synthesize_style))";
+/// The choice on faces by value.
+const BY_VALUE: &str = "family.choose(request_of(request, synthesize_style))";
 
 #[test]
 fn a_choice_through_a_method() {
@@ -456,15 +418,14 @@ struct Picker {
     n: usize,
 }
 impl Picker {
-    fn pick(self, rows: &[Row; 64], request: Request) -> usize {
+    fn pick(self, family: FamilyRows, request: Request) -> Option<usize> {
         let kept = [0u8; 64];
-        let own = [0u8; 0];
-        stages::choose(rows, &own, self.n, request)
+        family.choose(request)
     }
 }
 ";
-    let call = "Picker { n: count }.pick(&rows, request_of(attributes, synthesize_style))";
-    let planted = real().change(MATCHING, "match_font", BY_VALUE, call);
+    let call = "Picker { n: count }.pick(family, request_of(request, synthesize_style))";
+    let planted = real().change(MATCHING, "choose", BY_VALUE, call);
     let planted = planted.with(MATCHING, item);
     planted.finds("matching::matching::Picker::pick", "`kept`: [u8; 64]");
 }
@@ -475,15 +436,15 @@ fn an_array_beside_the_choice_in_one_call() {
 fn peek(places: &[u8]) -> u8 {
     places[0]
 }
-fn second(a: u8, b: usize) -> usize {
+fn second(a: u8, b: Option<usize>) -> Option<usize> {
     b
 }
 ";
     let call = format!("second(peek(&[0u8; 64]), {BY_VALUE})");
-    let planted = real().change(MATCHING, "match_font", BY_VALUE, &call);
+    let planted = real().change(MATCHING, "choose", BY_VALUE, &call);
     let planted = planted.with(MATCHING, items);
     planted.finds(
-        "matching::matching::match_font",
+        "matching::matching::choose",
         "`a value without a name`: [u8; 64]",
     );
     let block = before_choice("let kept = peek(&{ [0u8; 64] });").with(FAMILIES, items);

@@ -1,12 +1,11 @@
-//! Short arrays: before the choice they are what one face has, at the choice there is none but the row that is looked at.
+//! Short arrays: before the choice they are what one face has, at the choice and in it there is none.
 
 use super::{Planted, real};
 
 const MATCHING: &str = "matching/matching";
 const STAGES: &str = "matching/stages";
 const FAMILIES: &str = "query/families";
-const CHOSEN: &str = "let chosen = stages::choose(rows, members, count, request);";
-const OWN: &str = "let own = [0u8; 0];";
+const CHOSEN: &str = "let chosen = ";
 
 fn at_the_choice(new: &str) -> Planted {
     real().before(FAMILIES, "family_offer", CHOSEN, new)
@@ -21,15 +20,15 @@ fn found(planted: &Planted, entries: usize) {
 fn one_at_the_choice() {
     found(&at_the_choice("let kept = [0u64; 16];"), 16);
     found(&at_the_choice("let kept = [0u8; 1];"), 1);
-    found(&at_the_choice("let kept = [n, count];"), 2);
+    found(&at_the_choice("let kept = [n, n];"), 2);
     let item = "\nstruct Face {\n    place: usize,\n    weight: u32,\n}\n";
     let faces = at_the_choice("let kept = [Face { place: 0, weight: 0 }; 16];");
     found(&faces.with(FAMILIES, item), 16);
     let item = "\nstruct Kept {\n    places: [u8; 3],\n}\n";
     let held = at_the_choice("let kept = Kept { places: [0u8; 3] };");
     found(&held.with(FAMILIES, item), 3);
-    let lent = "let chosen = stages::choose(rows, &[0u8; 16], count, request);";
-    let planted = real().change(FAMILIES, "family_offer", CHOSEN, lent);
+    let lent = "FamilyRows { members: &[0u8; 16], ..family }.choose(request)";
+    let planted = real().change(FAMILIES, "family_offer", "family.choose(request)", lent);
     planted.finds(
         "query::families::family_offer",
         "short arrays with 16 entries at the choice: `a value without a name`",
@@ -39,24 +38,30 @@ fn one_at_the_choice() {
 
 #[test]
 fn a_row_that_waits_for_the_choice() {
-    found(&at_the_choice("let kept = rows[0];"), 5);
+    found(&at_the_choice("let kept = [family.rows[0]];"), 1);
+    at_the_choice("let kept = family.rows[0];").finds_nothing();
 }
 
 #[test]
 fn one_at_the_choice_by_value() {
-    let planted = real().before(MATCHING, "match_font", OWN, "let kept = [0u64; 16];");
+    let kept = "let kept = [0u64; 16];";
+    let planted = real().before(MATCHING, "match_font", "choose(&fonts", kept);
     planted.finds(
-        "matching::matching::match_font",
+        "matching::matching::choose",
         "short arrays with 16 entries at the choice: `kept`",
     );
-    let planted = real().before("matching/family", "new", OWN, "let kept = fonts[0];");
-    planted.finds("matching::stages::default_place", "at the choice: `kept`");
+    let kept = "let kept = fonts[0];";
+    let planted = real().before("matching/family", "new", "let family = ", kept);
+    planted.finds(
+        "matching::rows::FamilyRows::default_place",
+        "at the choice: `kept`",
+    );
 }
 
 #[test]
 fn one_in_the_loop_that_takes_the_faces() {
     for new in ["let kept = [0u64; 16];", "let axes = font.axes;"] {
-        let planted = real().behind(MATCHING, "match_font", "let font = fonts[i];", new);
+        let planted = real().before(MATCHING, "take_faces", "rows[place] = ", new);
         planted.finds_nothing();
     }
 }
@@ -74,16 +79,16 @@ fn one_more_than_a_face_has() {
 
 #[test]
 fn one_in_the_choice_that_is_no_row() {
-    let at = "let bearer = rank::place_of(best);";
-    for (of, value) in [("[u64; 5]", "[0u64; 5]"), ("[u32; 2]", "[0u32; 2]")] {
+    let at = "let style = ";
+    for (of, value) in [("[u64; 5]", "[0u64; 5]"), ("[Row; 1]", "[Row::BLANK; 1]")] {
         let item = format!("\nconst TABLE: {of} = {value};\n");
         let planted = real().before(STAGES, "choose", at, "let kept = TABLE[0];");
         planted.with(STAGES, &item).finds(
-            "matching::stages::choose",
-            &format!("`a value without a name`: {of} in the choice is no row"),
+            "matching::rows::FamilyRows::choose",
+            &format!("`a value without a name`: {of} is an array in the choice"),
         );
     }
-    let row = "\nconst TABLE: [u32; 5] = [0u32; 5];\n";
-    let planted = real().before(STAGES, "choose", at, "let kept = TABLE[0];");
+    let row = "\nconst TABLE: Row = Row::BLANK;\n";
+    let planted = real().before(STAGES, "choose", at, "let kept = TABLE;");
     planted.with(STAGES, row).finds_nothing();
 }

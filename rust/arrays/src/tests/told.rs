@@ -4,7 +4,12 @@ use super::{Planted, real};
 
 const FAMILIES: &str = "query/families";
 const STAGES: &str = "matching/stages";
-const CHOSEN: &str = "let chosen = stages::choose(rows, members, count, request);";
+const CHOSEN: &str = "let chosen = ";
+const DEFAULT: &str = "let default = ";
+
+/// Where the rows of a job are loaded, and what comes behind.
+const LOAD: &str = "match loading::load(";
+const LOADED: &str = "if (request as usize)";
 
 fn before_choice(new: &str) -> Planted {
     real().before(FAMILIES, "family_offer", CHOSEN, new)
@@ -50,7 +55,6 @@ fn what_cannot_be_told() {
     found("let kept = n[0];", "usize has no entries");
     found("let kept = *n;", "usize is no reference");
     found("let kept = n.count;", "usize has no field `count`");
-    found("let kept = 0..n;", "a range outside an index is not read");
     found("let kept;", "the type of `kept` cannot be told");
     found(
         "match n { Elsewhere::Two(x) => {} _ => {} }",
@@ -64,27 +68,32 @@ fn what_cannot_be_told() {
 
 #[test]
 fn a_reference_in_a_field() {
-    let item = "\nstruct Lent {\n    places: &[u8],\n}\n";
-    let planted = before_choice("let kept = Lent { places: members };").with(FAMILIES, item);
-    planted.finds(
-        "query::families::family_offer",
-        "the reference in the field places",
+    let item = "\nstruct Lent<'a> {\n    table: &'a mut [Row],\n    own: u32,\n}\n";
+    let lent = "let lent = Lent { table: &mut *rows, own: 0 };\n    lent.table[0] = Row::BLANK;";
+    let planted = real().before("query/call", "search_with", LOADED, lent);
+    planted.with("query/call", item).finds(
+        "query::call::search_with",
+        "`lent` writes the family `rows`",
     );
+    let item = item.replace("&'a mut", "&'a");
+    let lent = "let lent = Lent { table: &*rows, own: 0 };\n    lent.own = 1;";
+    let planted = real().before("query/call", "search_with", LOADED, lent);
+    planted.with("query/call", &item).finds_nothing();
 }
 
 #[test]
 fn a_call_that_is_not_known_behind_the_choice() {
-    let at = "let result = answer.result;";
-    let planted = real().behind("query/call", "offer", at, "elsewhere(result);");
+    let at = "record::write_record(";
+    let planted = real().before("query/call", "offer", at, "elsewhere(answer);");
     planted.finds("query::call::offer", "the call of elsewhere is not known");
-    let planted = real().behind("query/call", "offer", at, "result.elsewhere();");
+    let planted = real().before("query/call", "offer", at, "answer.elsewhere();");
     planted.finds("query::call::offer", "the call of elsewhere is not known");
 }
 
 #[test]
 fn a_call_that_is_not_known_on_no_way() {
-    let at = "let mut families = [0u32; 0];";
-    let planted = real().before("query/job", "check", at, "matching::stages::lower(0, 1);");
+    let call = "matching::stages::lower(0, 1);";
+    let planted = real().before("query/job", "check", "walk(job", call);
     planted.finds(
         "query::job::check",
         "the call of matching::stages::lower is not known",
@@ -95,25 +104,24 @@ fn a_call_that_is_not_known_on_no_way() {
 fn what_cannot_be_read() {
     let planted = before_choice("let kept = [0u8; 64u65];");
     finds_text(&planted, "cannot read crates/query/src/families.rt:");
-    let planted = before_choice("for k in members { }");
+    let planted = before_choice("loop { }");
     finds_text(&planted, "cannot read crates/query/src/families.rt:");
     finds_text(
         &real().with(STAGES, "\ntrait Other {}\n"),
         "cannot read crates/matching/src/stages.rt:",
     );
-    let twice = real().with(STAGES, "\nfn choose() {}\n");
-    finds_text(&twice, "matching::stages::choose stands twice");
+    let twice = real().with(STAGES, "\nimpl FamilyRows<'_> {\n    fn choose() {}\n}\n");
+    finds_text(&twice, "matching::rows::FamilyRows::choose stands twice");
     let twice = real().with(STAGES, "\nuse font::attributes::Attributes;\n");
     finds_text(&twice, "two uses of the name Attributes");
 }
 
 #[test]
 fn a_function_that_calls_itself() {
-    let planted = before_choice("let left = default_offer(rows, members, count, 0, n);");
+    let planted = before_choice("let left = default_offer(family, None, n);");
     planted.finds_nothing();
-    let at = "let default = stages::default_place(rows, members, count);";
-    let again = "let again = default_offer(rows, members, count, chosen, n);";
-    let planted = real().before(FAMILIES, "default_offer", at, again);
+    let again = "let again = default_offer(family, chosen, n);";
+    let planted = real().before(FAMILIES, "default_offer", DEFAULT, again);
     planted.finds(
         "query::families::default_offer",
         "default_offer calls itself",
@@ -122,19 +130,18 @@ fn a_function_that_calls_itself() {
 
 #[test]
 fn a_way_that_is_lost() {
-    let planted = real().change(FAMILIES, "family_offer", CHOSEN, "let chosen = n;");
+    let planted = real().change(FAMILIES, "family_offer", "family.choose(request)", "None");
     finds_text(
         &planted,
         "no way from query::call::offer to the weight's stage",
     );
-    let at = "let default = stages::default_place(rows, members, count);";
-    let planted = real().change(FAMILIES, "default_offer", at, "let default = n;");
+    let planted = real().change(FAMILIES, "default_offer", "family.default_place()", "n");
     finds_text(
         &planted,
         "no way from query::cursor::Cursor::step to the default",
     );
-    let at = "stages::choose(&rows, &own, count, request_of(attributes, synthesize_style))";
-    let planted = real().change("matching/matching", "match_font", at, "count");
+    let at = "family.choose(request_of(request, synthesize_style))";
+    let planted = real().change("matching/matching", "choose", at, "None");
     finds_text(
         &planted,
         "no way from matching::matching::match_font to the weight's stage",
@@ -145,28 +152,23 @@ fn a_way_that_is_lost() {
 
 #[test]
 fn stages_in_another_order() {
-    let at = "rank::place_of(weight_stage(rows, members, count, percent, style, request))";
-    let planted = real().change(STAGES, "choose", at, "bearer");
+    let at = "weight_rank(request, percent, style, face, place)";
+    let planted = real().change(STAGES, "choose", at, "rank::NOWHERE");
     finds_text(
         &planted,
         "no way from matching::matching::match_font to the weight's stage",
     );
-    let again = "let again = width_stage(rows, members, count, request);";
-    let planted = real().before(
-        STAGES,
-        "choose",
-        "let bearer = rank::place_of(best);",
-        again,
-    );
+    let again = "let again = width_rank(request, self.row(first), 0);";
+    let planted = real().before(STAGES, "choose", "let style = ", again);
     finds_text(
         &planted,
-        "the choice goes through: matching::stages::width_stage, matching::stages::slant_at",
+        "the choice goes through: matching::stages::width_rank, matching::rows::FamilyRows::slant_at",
     );
 }
 
 #[test]
 fn a_further_public_way() {
-    let item = "\npub fn other(rows: &[Row], count: usize) -> usize {\n    default_place(rows, rows, count)\n}\n";
+    let item = "\npub fn other(family: FamilyRows) -> usize {\n    family.default_place()\n}\n";
     let planted = real().with(STAGES, item);
     planted.finds("matching::stages::other", "a further way to the choice");
     real()
@@ -176,11 +178,12 @@ fn a_further_public_way() {
 
 #[test]
 fn a_job_that_is_loaded_in_a_loop_or_from_elsewhere() {
-    let at =
-        "let walked = loading::load(job, reading, &mut *rows, &mut families, request as usize);";
-    let looped = format!("while false {{ {at} }}\n    {at}");
-    let planted = real().change("query/call", "search_with", at, &looped);
-    planted.finds("query::loading::load", "a job is loaded in a loop");
+    let call = "loading::load(job, reading, &mut *rows, &mut families, request as usize);";
+    for head in ["while false", "for _ in 0..2"] {
+        let looped = format!("{head} {{ {call} }}");
+        let planted = real().before("query/call", "search_with", LOAD, &looped);
+        planted.finds("query::loading::load", "a job is loaded in a loop");
+    }
     let lent = real().change(
         "query/loading",
         "load",
@@ -217,7 +220,7 @@ fn a_family_or_a_place_that_cannot_be_told() {
 #[test]
 fn rows_that_the_caller_lends() {
     let old = "job: &[u8]";
-    let new = "job: &[u8], table: &mut [[u32; 5]]";
+    let new = "job: &[u8], table: &mut [matching::rows::Row]";
     let step = real().change("query/cursor", "step", old, new);
     let found = "let found = call::search_with(job, reading, &mut *table, 0, 0);";
     let at = "let answer = call::offer_at";

@@ -4,7 +4,7 @@ use std::collections::BTreeSet;
 
 use super::{Ask, Live, Storage, Value, Walker};
 use crate::tree::{Expr, Kind};
-use crate::types::{MOST_IN_THE_CHOICE, Type};
+use crate::types::Type;
 
 impl<'p> Walker<'p> {
     /// A value of a type begins to live under a name.
@@ -42,7 +42,7 @@ impl<'p> Walker<'p> {
         Storage::Array(id)
     }
 
-    /// In the choice no array but one face's row may be alive.
+    /// In the choice no array may be alive.
     fn test_choice(&mut self, name: &str, of: &Type, line: usize) {
         let Some(from) = self.choice else { return };
         let mut entries = 0;
@@ -51,17 +51,11 @@ impl<'p> Walker<'p> {
             entries += held.small + held.lists.iter().sum::<usize>();
         }
         self.way.seen.entries = self.way.seen.entries.max(entries);
-        if MOST_IN_THE_CHOICE < entries {
-            let what =
-                format!("`{name}`: {of} is an array in the choice, {entries} entries together");
-            self.find(line, &what);
-        }
-        if !self.program.is_row(of) {
-            self.find(line, &format!("`{name}`: {of} in the choice is no row"));
-        }
+        let what = format!("`{name}`: {of} is an array in the choice, {entries} entries together");
+        self.find(line, &what);
     }
 
-    /// In the choice no array is made, of whatever length: a face's row is read where it lies.
+    /// In the choice no array is made, of whatever length.
     pub(super) fn made(&mut self, line: usize, of: &Type) {
         if self.choice.is_some() {
             let place = self.place(line);
@@ -80,6 +74,15 @@ impl<'p> Walker<'p> {
         value
     }
 
+    /// A new value that holds others: it lies too where those of them do by which is written.
+    pub(super) fn holding(&mut self, line: usize, of: Type, held: &[Value], ask: Ask) -> Value {
+        let mut value = self.fresh(line, of, ask);
+        let program = self.program;
+        let lent = held.iter().filter(|v| program.lends_to_write(&v.of));
+        value.storage.extend(lent.flat_map(|v| v.storage.iter()));
+        value
+    }
+
     /// A local from here on. Of a value that is not on the way nothing is counted.
     pub(super) fn declare(&mut self, line: usize, name: &'p str, mut value: Value, later: bool) {
         if !value.of.is_reference() {
@@ -87,7 +90,10 @@ impl<'p> Walker<'p> {
             if later {
                 storage = self.begin(name, &value.of, line);
             }
-            value.storage = [storage].into();
+            if !self.program.lends(&value.of) {
+                value.storage.clear();
+            }
+            value.storage.insert(storage);
         }
         self.frame().locals.push((name, value));
     }
@@ -106,7 +112,7 @@ impl<'p> Walker<'p> {
         Value::new(Type::Unit)
     }
 
-    fn write(&mut self, line: usize, place: &Expr, target: &Value) {
+    pub(super) fn write(&mut self, line: usize, place: &Expr, target: &Value) {
         let (root, inside) = root_of(place);
         let plain = BTreeSet::from([Storage::Plain]);
         if inside || target.storage != plain {

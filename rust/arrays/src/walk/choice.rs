@@ -6,14 +6,14 @@ use crate::tree::Function;
 use crate::types::Type;
 
 /// The function that chooses for default attributes.
-pub const DEFAULT: &str = "matching::stages::default_place";
+pub const DEFAULT: &str = "matching::rows::FamilyRows::default_place";
 
-/// The stages of the choice, in their order.
+/// The stages of the choice, in their order: what ranks a face in each, and the look for a slant axis.
 pub const STAGES: [&str; 4] = [
-    "matching::stages::width_stage",
-    "matching::stages::slant_at",
-    "matching::stages::style_stage",
-    "matching::stages::weight_stage",
+    "matching::stages::width_rank",
+    "matching::rows::FamilyRows::slant_at",
+    "matching::stages::style_rank",
+    "matching::stages::weight_rank",
 ];
 
 impl<'p> Walker<'p> {
@@ -61,7 +61,7 @@ impl<'p> Walker<'p> {
         }
         self.choice = Some(self.alive.len());
         self.stages.clear();
-        self.body(path, item, given, true);
+        self.body(path, item, (given, None), true);
         self.choice = None;
         if self.stages != STAGES {
             let seen = self.stages.join(", ");

@@ -10,18 +10,21 @@ use crate::types::Type;
 /// The function that loads a job's faces into what is lent to it.
 pub const LOAD: &str = "query::loading::load";
 
+/// What a face is loaded as.
+const ROW: &str = "matching::rows::Row";
+
 impl<'p> Walker<'p> {
     /// The function that the way begins with. By value the lists that it is handed are the family; on a job they are
     /// beside it, unless they are lent to be loaded.
     pub fn start(&mut self, path: &'p str, item: &'p Item<Function>, job: bool) {
         self.way.functions.insert(path.into());
-        self.enter(path, item, false);
+        self.enter(path, item, None, false);
         let scope = self.scope();
         for parameter in &item.value.parameters {
             let told = self.program.type_of(scope, &parameter.annotation);
             let of = self.told(parameter.line, told);
             let mut value = Value::new(of);
-            if value.of.is_reference() {
+            if self.program.lends(&value.of) {
                 value.storage = [Storage::Outside].into();
             }
             self.declare(parameter.line, &parameter.name, value, true);
@@ -82,7 +85,7 @@ fn lends_rows(of: &Type) -> bool {
             mutable: true,
             inner,
         } => match &**inner {
-            Type::Array(row, _) | Type::Slice(row) => matches!(**row, Type::Array(_, _)),
+            Type::Array(row, _) | Type::Slice(row) => **row == Type::Named(ROW.into()),
             _ => false,
         },
         _ => false,

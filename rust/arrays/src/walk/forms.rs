@@ -3,7 +3,7 @@
 use super::{Ask, Value, Walker};
 use crate::constants::number;
 use crate::program::Scope;
-use crate::tree::{Expr, Kind, TypeTree};
+use crate::tree::{Expr, Kind, Pattern, TypeTree};
 use crate::types::Type;
 
 /// Of two types of numbers the one that is stated.
@@ -17,11 +17,11 @@ fn stated(left: Type, right: Type) -> Type {
 impl<'p> Walker<'p> {
     /// A local, a constant, or a variant without payload.
     pub(super) fn named(&mut self, line: usize, path: &'p [String], ask: Ask) -> Value {
-        if let [name] = path {
-            let locals = &self.frame().locals;
-            if let Some((_, value)) = locals.iter().rev().find(|(n, _)| n == name) {
-                return value.clone();
-            }
+        if let Some(value) = self.local(path) {
+            return value;
+        }
+        if path.concat() == "None" {
+            return Value::new(Type::Perhaps(Box::new(Type::Passed)));
         }
         if let Some((whole, _)) = self.program.variant(self.scope(), path) {
             return self.fresh(line, Type::Named(whole), ask);
@@ -29,14 +29,78 @@ impl<'p> Walker<'p> {
         let whole = self.program.whole(self.scope(), path);
         if let Some(item) = whole.and_then(|whole| self.program.constants.get(&whole)) {
             let scope = Scope {
-                module: item.module,
                 of: item.value.of.as_deref(),
+                ..Scope::of_module(item.module)
             };
             let told = self.program.type_of(scope, &item.value.annotation);
             let of = self.told(line, told);
             return self.fresh(line, of, ask);
         }
+        let whole = self.program.whole(self.scope(), path);
+        if let Some(entry) = whole.and_then(|w| self.program.functions.get_key_value(&w)) {
+            return self.handed_on(line, entry, ask);
+        }
         self.unread(line, &format!("`{}` is not known", path.join("::")))
+    }
+
+    /// The local that a path names.
+    pub(super) fn local(&mut self, path: &[String]) -> Option<Value> {
+        let [name] = path else { return None };
+        let mut locals = self.frame().locals.iter().rev();
+        let found = locals.find(|(n, _)| n == name);
+        found.map(|(_, value)| value.clone())
+    }
+
+    /// What is there, or the function is left.
+    pub(super) fn tried(&mut self, of: &'p Expr, ask: Ask) -> Value {
+        let mut value = self.value(of, ask);
+        if let Type::Perhaps(inner) = value.of {
+            value.of = *inner;
+        }
+        value
+    }
+
+    /// A closure counts where it is written, with all that is done in it.
+    pub(super) fn closure(
+        &mut self,
+        line: usize,
+        parameters: &'p [(Pattern, Option<TypeTree>)],
+        body: &'p Expr,
+        ask: Ask,
+    ) -> Value {
+        let locals = self.frame().locals.len();
+        let alive = self.alive.len();
+        let mut handed = std::mem::take(&mut self.handed).into_iter();
+        for (pattern, annotation) in parameters {
+            let mut value = handed.next().unwrap_or_else(Value::passed);
+            if let Some(tree) = annotation {
+                let told = self.program.type_of(self.scope(), tree);
+                value.of = self.told(line, told);
+            }
+            self.bind(line, pattern, value, ask.later);
+        }
+        let value = self.value(body, ask.bound());
+        self.frame().locals.truncate(locals);
+        self.alive.truncate(alive);
+        value
+    }
+
+    pub(super) fn tuple(&mut self, line: usize, parts: &'p [Expr], ask: Ask) -> Value {
+        let values = self.each(parts, ask);
+        if values.is_empty() {
+            return Value::new(Type::Unit);
+        }
+        let of = Type::Tuple(values.iter().map(|v| v.of.clone()).collect());
+        self.holding(line, of, &values, ask)
+    }
+
+    /// A range by itself, whose numbers come one by one.
+    pub(super) fn range(&mut self, ends: impl Iterator<Item = &'p Box<Expr>>, ask: Ask) -> Value {
+        let mut of = Type::Passed;
+        for end in ends {
+            of = stated(of, self.value(end, ask.unbound()).of);
+        }
+        Value::new(Type::Perhaps(Box::new(of)))
     }
 
     pub(super) fn behind(&mut self, line: usize, of: &'p Expr, ask: Ask) -> Value {
@@ -91,6 +155,14 @@ impl<'p> Walker<'p> {
         let path = match value.of.target() {
             Type::Passed => return value,
             Type::Named(path) => path,
+            Type::Tuple(parts) => {
+                let at = name.parse().ok().filter(|at: &usize| *at < parts.len());
+                let of = at.map_or(Type::Passed, |at| parts[at].clone());
+                return Value {
+                    of,
+                    storage: value.storage,
+                };
+            }
             other => {
                 return self.unread(line, &format!("{other} has no field `{name}`"));
             }
@@ -157,11 +229,25 @@ impl<'p> Walker<'p> {
         items: impl IntoIterator<Item = &'p Expr>,
         ask: Ask,
     ) -> Vec<Value> {
+        self.each_handed(items, &[], ask)
+    }
+
+    /// The same; the closures among them are handed these.
+    pub(super) fn each_handed(
+        &mut self,
+        items: impl IntoIterator<Item = &'p Expr>,
+        handed: &[Vec<Value>],
+        ask: Ask,
+    ) -> Vec<Value> {
         let items: Vec<&Expr> = items.into_iter().collect();
         let mut values = Vec::new();
         for (i, item) in items.iter().enumerate() {
+            if matches!(item.kind, Kind::Closure(_, _)) {
+                self.handed = handed.get(i).cloned().unwrap_or_default();
+            }
             let later = items[i + 1..].iter().any(|e| self.leads_to_choice(e));
             values.push(self.value(item, ask.or(later).bound()));
+            self.handed.clear();
         }
         values
     }
@@ -174,15 +260,21 @@ impl<'p> Walker<'p> {
         fields: &'p [(String, Expr)],
         ask: Ask,
     ) -> Value {
-        self.each(fields.iter().map(|(_, field)| field), ask);
+        let mut values = self.each(fields.iter().map(|(_, field)| field), ask);
         let variant = self.program.variant(self.scope(), path);
-        let whole = variant.map(|(whole, _)| whole);
-        let whole = whole.or_else(|| self.program.whole(self.scope(), path));
-        match whole {
-            Some(whole) if self.program.types.contains_key(&whole) => {
-                self.fresh(line, Type::Named(whole), ask)
+        let whole = || self.program.whole(self.scope(), path).map(|path| (path, 0));
+        let named = variant.or_else(whole);
+        let Some((whole, at)) = named.filter(|(path, _)| self.program.types.contains_key(path))
+        else {
+            let what = format!("the type {} is not known", path.join("::"));
+            return self.unread(line, &what);
+        };
+        let stated = self.program.fields(&whole, at).unwrap_or_default();
+        for ((name, _), value) in fields.iter().zip(&mut values) {
+            if let Some((_, of)) = stated.iter().find(|(field, _)| field == name) {
+                value.of = of.clone();
             }
-            _ => self.unread(line, &format!("the type {} is not known", path.join("::"))),
         }
+        self.holding(line, Type::Named(whole), &values, ask)
     }
 }

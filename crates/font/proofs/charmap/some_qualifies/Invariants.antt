@@ -1,10 +1,6 @@
-use Prim.Native.Nat.{◌≤◌, ◌-◌}
 use Rattle.font.specs.Charmap.{record_class}
 use Rattle.font.proofs.Least.{Best}
 use Rattle.font.proofs.charmap.some_qualifies.Given as goal
 
 abbrev pub invariant-loop-i : goal.invariant-loop-i
-invariant-loop-i l = (l.i ≤ l.records) × Best 4 (record_class l.cmap) l.i 4 0
-
-abbrev pub decreases-loop-i : goal.decreases-loop-i
-decreases-loop-i l = l.records - l.i
+invariant-loop-i l = Best 4 (record_class l.cmap) l.i 4 0

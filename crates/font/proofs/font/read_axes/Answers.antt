@@ -1,5 +1,4 @@
 use mathlib.Core.Path.{◌≡◌, refl, ◌∙◌, ap}
-use borrow.Author.Rules.{rules}
 use native.Mathlib.Omega.{arith}
 use lib.Ieee.{of_bits, of_int, round}
 use Rattle.font.specs.First.{tabulate}
@@ -10,13 +9,13 @@ use Rattle.font.proofs.font.read_axes.Goals as goal
 
 pub loop-i-init : goal.loop-i-init
 unfolding axes_of no_axis tabulate single of_bits of_int round
-loop-i-init c = (omega arith, refl)
+loop-i-init c = refl
 
 pub loop-i-preserved : goal.loop-i-preserved
 unfolding axes_of
-loop-i-preserved c = (search rules, rw (c.loop-i.invariant.1, c.axis_at.ensures) (filled _ _ 16 _ (omega (arith, c.requires))))
+loop-i-preserved c = rw (c.loop-i.invariant, c.axis_at.ensures) (filled _ _ 16 _ (omega (arith, c.requires)))
 
 pub returns : goal.returns
 returns c =
     let end : c.loop-i.i ≡ c.args.count = omega arith in
-    c.loop-i.invariant.1 ∙ ap (axes_of _) end
+    c.loop-i.invariant ∙ ap (axes_of _) end

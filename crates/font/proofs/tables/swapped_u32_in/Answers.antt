@@ -1,12 +1,11 @@
-use mathlib.Core.Path.{ap, ◌∙◌}
+use mathlib.Core.Path.{◌∙◌}
 use native.Mathlib.Omega.{arith}
-use Rattle.font.specs.Tables.{swap_bytes}
-use Rattle.font.proofs.Fields.{in32, swapped_halves}
+use Prim.Native.Nat.{ℕ}
+use Rattle.font.proofs.Fields.{le32, below32}
 use Rattle.font.proofs.tables.swapped_u32_in.Goals as goal
 
 pub returns : goal.returns
 returns c =
-    let high = c.swapped_u16_in.ensures in
-    let low = c.swapped_u16_in-2.ensures in
-    let field = in32 c.args.s.now c.args.at (omega (arith, c.requires)) in
-    (rw (high.0, low.0) (swapped_halves _ _ low.1) ∙ ap swap_bytes field, omega (arith, high.1, low.1, field))
+    let s = c.args.s.now in
+    let byte = λ (i : ℕ). c.type_inv.s i in
+    (c.from_le_bytes.ensures ∙ le32 s c.args.at (omega arith) (λ i. omega (arith, byte i)), below32 s c.args.at (omega arith) (λ i. omega (arith, byte i)))

@@ -1,21 +1,7 @@
-use Prim.Native.Nat.{◌+◌}
+use mathlib.Core.Path.{◌∙◌}
 use native.Mathlib.Omega.{arith}
 use Rattle.font.proofs.Fields.{in16}
 use Rattle.font.proofs.tables.u16_in.Goals as goal
 
-pub overflow_cast-result : goal.overflow_cast-result
-overflow_cast-result c = omega (arith, c.type_inv.s c.args.at)
-
-pub overflow_mul-result : goal.overflow_mul-result
-overflow_mul-result c = omega (arith, c.type_inv.s c.args.at)
-
-pub overflow_cast-result-2 : goal.overflow_cast-result-2
-overflow_cast-result-2 c = omega (arith, c.type_inv.s (c.args.at + 1))
-
-pub overflow_add-result-2 : goal.overflow_add-result-2
-overflow_add-result-2 c =
-    omega
-    (arith, c.type_inv.s c.args.at, c.type_inv.s (c.args.at + 1))
-
 pub returns : goal.returns
-returns c = in16 _ _ (omega arith)
+returns c = c.from_be_bytes.ensures ∙ in16 _ _ (omega arith)

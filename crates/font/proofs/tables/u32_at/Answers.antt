@@ -2,8 +2,5 @@ use native.Mathlib.Omega.{arith}
 use Rattle.font.proofs.Fields.{out32}
 use Rattle.font.proofs.tables.u32_at.Goals as goal
 
-pub returns-then-s-lt4 : goal.returns-then-s-lt4
-returns-then-s-lt4 c = out32 _ _ (omega arith)
-
 pub returns-then-s-at : goal.returns-then-s-at
-returns-then-s-at c = out32 _ _ (omega arith)
+returns-then-s-at c = grind (arith, out32)

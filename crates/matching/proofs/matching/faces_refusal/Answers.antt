@@ -1,37 +1,33 @@
 -- The invariant: the refusal is that of the faces passed.
-use mathlib.Core.Path.{◌≡◌, sym, ◌∙◌, ap}
-use native.Mathlib.Omega.{arith}
+use Rattle.std.proofs.Common.{arith, ◌≡◌, sym, ◌∙◌, ap}
+use Rattle.std.proofs.lemmas.List.{get_or-take}
+use Rattle.font.specs.Refusals.{refusal_in, number}
+use Rattle.font.specs.Overrides.{face_refusal}
+use Rattle.font.specs.declared.font.FontInfo.{FontInfo}
+use Rattle.matching.specs.Matching.{no_face}
 use Rattle.matching.specs.Rows.{either_refusal}
 use Rattle.matching.proofs.Taken.{refusal_below, refusal_none, refusal_more, refusal_all, faces_over}
 use Rattle.matching.proofs.matching.faces_refusal.Goals as goal
 
 pub returns-then-count-gt64 : goal.returns-then-count-gt64
-returns-then-count-gt64 c = sym (faces_over c.args.fonts c.args.count c.if-count-gt64.true)
+unfolding refusal_in number
+returns-then-count-gt64 c = sym (faces_over c.args.fonts.now c.args.count c.if-count-gt64.true)
 
-pub loop-i-init : goal.loop-i-init
-loop-i-init c = (omega arith, refusal_none c.args.fonts)
+pub loop-font-init : goal.loop-font-init
+unfolding refusal_in
+loop-font-init c = refusal_none c.args.fonts.now
 
-pub offset_bounds-fonts-i : goal.offset_bounds-fonts-i
-offset_bounds-fonts-i c = omega arith
-
-pub bounds-fonts-i : goal.bounds-fonts-i
-bounds-fonts-i c = omega arith
-
-pub overflow_add-i : goal.overflow_add-i
-overflow_add-i c = omega arith
-
-pub loop-i-smaller : goal.loop-i-smaller
-loop-i-smaller c = omega arith
-
-pub loop-i-preserved : goal.loop-i-preserved
-loop-i-preserved c =
+pub loop-font-preserved : goal.loop-font-preserved
+loop-font-preserved c =
     let a = c.args in
-    let l = c.loop-i in
-    (omega arith, refusal_more a.fonts l.i l.invariant.1 (c.either_refusal-refusal.ensures ∙ ap (either_refusal l.refusal) c.face_refusal.ensures))
+    let l = c.loop-font in
+    refusal_more a.fonts.now l.font-index l.invariant
+    (c.either_refusal-found.ensures
+    ∙ ap (λ (f : FontInfo). either_refusal (refusal_in l.found) (face_refusal f)) (get_or-take a.count a.fonts.now l.font-index no_face (omega arith)))
 
 pub returns : goal.returns
 returns c =
     let a = c.args in
-    let l = c.loop-i in
-    let end : l.i ≡ a.count = omega arith in
-    l.invariant.1 ∙ ap (refusal_below a.fonts) end ∙ refusal_all a.fonts a.count c.if-count-gt64.false
+    let l = c.loop-font in
+    let end : l.font-index ≡ a.count = omega arith in
+    l.invariant ∙ ap (refusal_below a.fonts.now) end ∙ refusal_all a.fonts.now a.count c.if-count-gt64.false

@@ -1,14 +1,13 @@
+use Rattle.std.specs.Prelude.{Ok, Some}
+use mathlib.Core.Path.{refl}
+use Rattle.query.specs.Listed.{search_in}
 use Rattle.query.proofs.AnswerCases.{face_answered}
 use Rattle.query.proofs.call.answer_found.Goals as goal
 
-pub returns-then-found-ne0 : goal.returns-then-found-ne0
-returns-then-found-ne0 c = record { none = λ h. c.without_offer.ensures; some = λ z. absurd (c.if-found-ne0.true z) }
-
 pub offered_face-font-requires : goal.offered_face-font-requires
-offered_face-font-requires c = let p = c.requires in let r = p.1 c.if-found-ne0.false in record { section_bound = (r.section, r.entry, r.overrides); reading_value = (p.0, r.taken) }
-
-pub with_synthesis-requires : goal.with_synthesis-requires
-with_synthesis-requires c = c.requires.0
+unfolding search_in
+offered_face-font-requires c = let r = c.requires in record { section_bound = (r.section, r.entry, r.overrides); taken = r.taken }
 
 pub returns : goal.returns
-returns c = face_answered {f = c.args.found} c.if-found-ne0.false c.offered_face-font.ensures c.with_synthesis.ensures
+unfolding search_in
+returns c = face_answered {f = search_in (Ok (Some c.args.found))} refl c.offered_face-font.ensures c.with_synthesis.ensures

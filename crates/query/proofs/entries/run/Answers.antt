@@ -1,36 +1,22 @@
-use Prim.Native.Nat.{◌≤◌, ◌<◌}
-use mathlib.Core.Path.{refl, ◌∙◌}
+use Prim.Native.Nat.{◌-◌}
+use mathlib.Core.Path.{◌≡◌}
 use native.Mathlib.Omega.{arith}
-use Rattle.query.proofs.Ends.{many_stops, many_over}
-use Rattle.query.proofs.Leaves.{item_ends, item_goes}
+use Rattle.std.proofs.lemmas.Result.{err_from_is_err_and}
+use Rattle.query.proofs.Runs.{run_over, run_stops, run_goes}
 use Rattle.query.proofs.entries.run.Goals as goal
 
-pub loop-left-init : goal.loop-left-init
-loop-left-init c = refl
+pub loop-init : goal.loop-init
+loop-init g c = λ r h.
+    let all : c.args.count - 0 ≡ c.args.count = omega arith in
+    rw all at h
 
-pub returns-then-next-ne0 : goal.returns-then-next-ne0
-returns-then-next-ne0 c =
-    let more : 0 < c.loop-left.left = omega arith in
-    many_stops _ _ _ _ more c.one-next.ensures c.if-next-ne0.true ∙ c.loop-left.invariant
+pub returns-in_err-place : goal.returns-in_err-place
+returns-in_err-place g c =
+    let p = err_from_is_err_and c.from_residual.result c.from_residual.ensures.1 in
+    rw (p.1, p.2) (c.loop.invariant _ (run_stops _ _ _ _ (omega arith) c.in_err-place.ensures))
 
-pub overflow_add-place : goal.overflow_add-place
-overflow_add-place c =
-    let item = c.args.item in
-    omega (arith, c.size-step.ensures, (item_ends item _ _ c.one-next.ensures c.if-next-ne0.false).1)
-
-pub overflow_sub-left : goal.overflow_sub-left
-overflow_sub-left c = omega arith
-
-pub loop-left-smaller : goal.loop-left-smaller
-loop-left-smaller c = omega arith
-
-pub loop-left-preserved : goal.loop-left-preserved
-loop-left-preserved c =
-    let item = c.args.item in
-    let more : 0 < c.loop-left.left = omega arith in
-    rw c.size-step.ensures (item_goes item _ _ _ more c.one-next.ensures c.if-next-ne0.false ∙ c.loop-left.invariant)
+pub loop-preserved : goal.loop-preserved
+loop-preserved g c = λ r h. c.loop.invariant _ (run_goes _ _ _ _ _ _ (omega arith) c.in_ok-place.ensures h)
 
 pub returns : goal.returns
-returns c =
-    let over : c.loop-left.left ≤ 0 = omega arith in
-    many_over _ _ _ _ over ∙ c.loop-left.invariant
+returns g c = c.loop.invariant _ (run_over _ _ _ (omega arith))

@@ -1,10 +1,11 @@
-use mathlib.Core.Path.{◌≡◌}
-use Rattle.query.specs.Reader.{ended, many}
-use Rattle.query.specs.Items.{read_item}
+use Prim.Native.Nat.{◌-◌}
+use Rattle.std.proofs.Common.{Result, ℕ}
+use Rattle.query.specs.declared.job.Refused.{Refused}
+use Rattle.query.specs.Items.{RunsTo}
 use Rattle.query.proofs.entries.run.Given as goal
 
-abbrev pub invariant-loop-left : goal.invariant-loop-left
-invariant-loop-left l = ended (many l.left (read_item l.item) l.job l.place) ≡ ended (many l.count (read_item l.item) l.job l.at)
-
-abbrev pub decreases-loop-left : goal.decreases-loop-left
-decreases-loop-left l = l.left
+-- what the items that are left give is what all of them give
+abbrev pub invariant-loop : goal.invariant-loop
+invariant-loop g l =
+    (result : Result ℕ Refused) → RunsTo (λ p x. goal.F-post g l.one p x) (l.count - l.counter) l.place result
+    → RunsTo (λ p x. goal.F-post g l.one p x) l.count l.fn.at result

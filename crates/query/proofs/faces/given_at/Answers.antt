@@ -1,42 +1,27 @@
-use Prim.Native.Nat.{ℕ, ◌+◌, ◌/◌, ◌%◌}
-use mathlib.Core.Path.{◌≡◌, sym, ap, ◌∙◌}
-use mathlib.Core.Bool.{cond}
-use mathlib.Core.List.{List}
-use lib.Dec.{eqb}
-use lib.Ieee.{Float}
-use lib.ListN.{get_or}
-use Rattle.font.specs.declared.attributes.FontStyle.{FontStyle}
-use Rattle.font.specs.declared.overrides.WidthOverride.{WidthOverride}
-use Rattle.font.specs.declared.overrides.StyleOverride.{StyleOverride}
-use Rattle.font.specs.declared.overrides.WeightOverride.{WeightOverride}
-use Rattle.font.specs.declared.overrides.WidthOverride.TheVariants as Width
-use Rattle.font.specs.declared.overrides.StyleOverride.TheVariants as Style
-use Rattle.font.specs.declared.overrides.WeightOverride.TheVariants as Weight
+use mathlib.Core.Path.{◌≡◌, refl, sym, ap, ◌∙◌}
+use mathlib.Core.Bool.{Bool, true, false, cond}
+use Rattle.std.specs.Prelude.{Option, None, Some}
+use Rattle.std.specs.Bool.{then_some}
 use Rattle.font.specs.StatedAttributes.{bit}
 use Rattle.font.proofs.Classes.{lowest}
-use Rattle.query.specs.Values.{number_at, style_at, given_at}
+use Rattle.query.specs.Values.{given_at}
 use Rattle.query.proofs.faces.given_at.Goals as goal
 
+some_where : {A : Type 0} (b : Bool) (x : A) → then_some b x ≡ cond b (Some x) None
+some_where true x = refl
+some_where false x = refl
+
+given : {A : Type 0} {o : Option A} {b d : Bool} {x y : A} → o ≡ then_some b x → b ≡ d → x ≡ y → o ≡ cond d (Some y) None
+given {d = d} {y = y} e p q = e ∙ (λ k. then_some (p k) (q k)) ∙ some_where d y
+
 -- the code tests the bits of the mask by division
-given_is : (s : List ℕ) (at m : ℕ) → m ≡ get_or s (at + 2) 0
-    → {x y : Float} {t : FontStyle} {a : WidthOverride} {b : StyleOverride} {d : WeightOverride}
-    → x ≡ number_at s (at + 3) → t ≡ style_at s (at + 7) → y ≡ number_at s (at + 12)
-    → a ≡ cond (eqb (m % 2) 1) (Width.Set (record { ratio = x })) Width.Keep
-    → b ≡ cond (eqb (m / 2 % 2) 1) (Style.Set t) Style.Keep
-    → d ≡ cond (eqb (m / 4 % 2) 1) (Weight.Set (record { value = y })) Weight.Keep
-    → record { width = a; style = b; weight = d } ≡ given_at s at
+pub returns : goal.returns
 unfolding given_at bit
-given_is s at m mask ex et ey ea eb ed =
+returns c =
+    let mask = c.byte_at-mask.ensures in
     λ k.
     record {
-      width = (ea ∙ (λ j. cond ((sym (lowest m) ∙ ap (bit 0) mask) j) (Width.Set (record { ratio = ex j })) Width.Keep)) k;
-      style = (eb ∙ (λ j. cond (ap (bit 1) mask j) (Style.Set (et j)) Style.Keep)) k;
-      weight = (ed ∙ (λ j. cond (ap (bit 2) mask j) (Weight.Set (record { value = ey j })) Weight.Keep)) k;
+      width = given c.then_some.ensures (sym (lowest c.byte_at-mask.result) ∙ ap (bit 0) mask) (λ j. record { ratio = (c.new.ensures ∙ c.number_at-ratio.ensures) j }) k;
+      style = given c.then_some-2.ensures (ap (bit 1) mask) c.style_at-style.ensures k;
+      weight = given c.then_some-3.ensures (ap (bit 2) mask) (λ j. record { value = (c.new-2.ensures ∙ c.number_at-weight.ensures) j }) k;
     }
-
-pub returns : goal.returns
-returns c =
-    let start = c.args in
-    given_is start.job.now start.at c.byte_at-mask.result c.byte_at-mask.ensures
-    c.number_at.ensures c.style_at.ensures c.number_at-2.ensures
-    c.width_given-width.ensures c.style_given-style.ensures c.weight_given-weight.ensures

@@ -5,10 +5,11 @@ use mathlib.Core.Bool.{true}
 use mathlib.Core.List.{List}
 use native.Mathlib.Omega.{arith}
 use Rattle.font.specs.declared.font.FontInfo.{FontInfo}
-use Rattle.font.specs.Slant.{is_reading}
+use Rattle.font.specs.Slant.{is_reading, reading_number}
 use Rattle.font.specs.Collection.{font_start}
 use Rattle.font.specs.Font.{font_refusal, face_of}
 use Rattle.font.proofs.FaceOf.{under_reading, accepted_face_lem, few_axes}
+use Rattle.font.proofs.Readings.{reading_stands}
 use Rattle.query.specs.declared.fields.Behind.{Behind}
 use Rattle.query.specs.Sizes.{most_overrides}
 use Rattle.query.specs.Fields.{NumberedFont}
@@ -43,16 +44,15 @@ few_stated_axes : (reading : ℕ) (f : NumberedFont) {font : FontInfo} → font 
 unfolding stated_by
 few_stated_axes reading f e = rw e (few_axes reading f.file f.number)
 
-read : (c : After-read_font-font) → c.read_font-font.result ≡ stated_by c.args.reading (face_at c.args.job.now c.args.entry).font
+read : (c : After-read_font-font) → c.read_font-font.result ≡ stated_by (reading_number c.args.reading) (face_at c.args.job.now c.args.entry).font
 read c =
-    font_of _ _ c.file_at-file.ensures c.behind_file-behind.ensures c.file_end.ensures.0 c.requires.reading_value.1 c.args.reading c.requires.reading_value.0
+    font_of _ _ c.file_at-file.ensures c.behind_file-behind.ensures c.file_end.ensures.0 c.requires.taken (reading_number c.args.reading) (reading_stands c.args.reading)
     c.read_font-font.ensures
 
 pub read_font-font-requires : goal.read_font-font-requires
 read_font-font-requires c =
-    let known = c.requires.reading_value in
-    under_reading _ _ _ known.0
-    ∙ not_refused _ _ c.file_at-file.ensures c.behind_file-behind.ensures c.file_end.ensures.0 known.1
+    under_reading _ _ _ (reading_stands c.args.reading)
+    ∙ not_refused _ _ c.file_at-file.ensures c.behind_file-behind.ensures c.file_end.ensures.0 c.requires.taken
 
 pub overridden-requires : goal.overridden-requires
 overridden-requires c =
@@ -60,7 +60,7 @@ overridden-requires c =
     let a = c.args in (
       omega (arith, given.0),
       omega (arith, given.2, c.u16_at-count.ensures),
-      few_stated_axes a.reading (face_at a.job.now a.entry).font (read (goal.at.overridden-requires c).After-read_font-font),
+      few_stated_axes (reading_number a.reading) (face_at a.job.now a.entry).font (read (goal.at.overridden-requires c).After-read_font-font),
     )
 
 pub returns : goal.returns

@@ -9,40 +9,30 @@ use Rattle.query.proofs.faces.overridden.Invariants.{after}
 use Rattle.query.proofs.faces.overridden.Goals as goal
 use Rattle.query.proofs.faces.overridden.Goals.{else-u16_at-number, then-u16_at-number}
 
-pub loop-i-init : goal.loop-i-init
-loop-i-init c =
+pub loop-init : goal.loop-init
+loop-init c =
     let start = c.args in
-    (omega arith, omega arith, c.requires.2, λ n os lies. all_left (after start.number) n start.job.now start.count start.at os start.font lies)
+    (omega arith, c.requires.2, λ n os lies. all_left (after start.number) n start.job.now start.count start.at os start.font lies)
 
-pub override_face-next-requires : goal.override_face-next-requires
-override_face-next-requires c = (omega arith, c.loop-i.invariant.2)
+pub override_face-changed-requires : goal.override_face-changed-requires
+override_face-changed-requires c = (omega arith, c.loop.invariant.1)
 
-pub override_end-place-requires : goal.override_end-place-requires
-override_end-place-requires c = omega arith
-
-pub overflow_add-i : goal.overflow_add-i
-overflow_add-i c = omega arith
-
-pub loop-i-smaller : goal.loop-i-smaller
-loop-i-smaller c = omega arith
-
-pub loop-i-preserved : goal.loop-i-preserved
+pub loop-preserved : goal.loop-preserved
 unfolding override_at after_overrides
-loop-i-preserved c =
+loop-preserved c =
     let start = c.args in
-    let o = override_at start.job.now c.loop-i.place in
+    let o = override_at start.job.now c.loop.place in
     let face = c.u16_at.ensures in
-    let one : c.if-u16_at-number.changed ≡ after_one_of o start.number c.loop-i.changed =
+    let one : c.if-u16_at-number.changed ≡ after_one_of o start.number c.loop.changed =
     elim c.if-u16_at-number.branch [
-      | then-u16_at-number w ↦ w.changed-is ∙ w.override_face-next.ensures ∙ named o start.number c.loop-i.changed (sym face ∙ w.if-u16_at-number.true)
-      | else-u16_at-number w ↦ w.changed-is ∙ not_named o start.number c.loop-i.changed (λ e. w.if-u16_at-number.false (face ∙ e))
+      | then-u16_at-number w ↦ w.changed-is ∙ w.override_face-changed.ensures ∙ named o start.number c.loop.changed (sym face ∙ w.if-u16_at-number.true)
+      | else-u16_at-number w ↦ w.changed-is ∙ not_named o start.number c.loop.changed (λ e. w.if-u16_at-number.false (face ∙ e))
     ] in (
-      omega arith,
       omega (arith, c.override_end-place.ensures.1),
-      rw (ap (λ (f : FontInfo). f.axis_count) one ∙ one_count o start.number c.loop-i.changed) c.loop-i.invariant.2,
+      rw (ap (λ (f : FontInfo). f.axis_count) one ∙ one_count o start.number c.loop.changed) c.loop.invariant.1,
       λ n os lies.
-          one_passed (after start.number) n start.job.now start.count c.loop-i.i c.loop-i.place _
-          c.loop-i-test.true (c.loop-i.invariant.3 n os lies) c.override_end-place.ensures.0
+          one_passed (after start.number) n start.job.now start.count c.loop.counter c.loop.place _
+          c.loop-test.true (c.loop.invariant.2 n os lies) c.override_end-place.ensures.0
           (λ known rest. ap (after start.number rest) one),
     )
 
@@ -53,6 +43,6 @@ returns c =
     record {
       is =
           λ n os lies.
-          none_left (after start.number) n start.job.now start.count c.loop-i.i c.loop-i.place
-          c.loop-i-test.false (c.loop-i.invariant.3 n os lies);
+          none_left (after start.number) n start.job.now start.count c.loop.counter c.loop.place
+          c.loop-test.false (c.loop.invariant.2 n os lies);
     }

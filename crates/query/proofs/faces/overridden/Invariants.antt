@@ -11,9 +11,6 @@ use Rattle.query.proofs.faces.overridden.Given as goal
 abbrev pub after : ℕ → List Override → FontInfo → FontInfo
 after number os f = after_overrides os number f
 
-abbrev pub invariant-loop-i : goal.invariant-loop-i
-invariant-loop-i l = (l.i ≤ l.count) × (l.place ≤ l.at + 65536 * l.i) × (l.changed.axis_count ≤ 16)
-    × ((n : ℕ) (os : List Override) → LiesAt (many l.count (read_override n)) l.job l.at os → Left (after l.number) n l.job (l.count - l.i) l.place l.changed (after l.number os l.initial.changed))
-
-abbrev pub decreases-loop-i : goal.decreases-loop-i
-decreases-loop-i l = l.count - l.i
+abbrev pub invariant-loop : goal.invariant-loop
+invariant-loop l = (l.place ≤ l.at + 65536 * l.counter) × (l.changed.axis_count ≤ 16)
+    × ((n : ℕ) (os : List Override) → LiesAt (many l.count (read_override n)) l.job l.at os → Left (after l.number) n l.job (l.count - l.counter) l.place l.changed (after l.number os l.initial.changed))

@@ -1,11 +1,7 @@
-use Prim.Native.Nat.{◌-◌, ◌≤◌}
 use mathlib.Core.Path.{◌≡◌}
 use Rattle.query.specs.Values.{pairs_at}
 use Rattle.query.specs.CallTables.{after_pairs}
 use Rattle.query.proofs.faces.with_pairs.Given as goal
 
 abbrev pub invariant-loop-k : goal.invariant-loop-k
-invariant-loop-k l = (l.k ≤ l.count) × (l.set ≡ after_pairs (pairs_at l.job l.at l.count) l.k l.initial.set)
-
-abbrev pub decreases-loop-k : goal.decreases-loop-k
-decreases-loop-k l = l.count - l.k
+invariant-loop-k l = l.set ≡ after_pairs (pairs_at l.job l.at l.count) l.k l.initial.set

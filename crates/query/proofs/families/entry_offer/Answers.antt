@@ -17,14 +17,13 @@ returns-then-count-eq0 c =
     let none : u16_at a.job.now a.at ≡ 0 = sym c.u16_at-count.ensures ∙ c.if-count-eq0.true in
     rw (none_offered (family_of_rows a.rows.now (members_at a.job.now a.at) (u16_at a.job.now a.at)) (held_row a.rows.now (members_at a.job.now a.at)) a.request none) refl
 
-pub slice_bounds-members-end : goal.slice_bounds-members-end
-slice_bounds-members-end c = omega (arith, c.requires.1.whole (λ e. c.if-count-eq0.false (c.u16_at-count.ensures ∙ e)), c.u16_at-count.ensures)
-
-pub family_offer-requires : goal.family_offer-requires
-family_offer-requires c =
+pub invariant_of-family : goal.invariant_of-family
+invariant_of-family c =
     let number = c.u16_at-count.ensures in
-    rw (members_part c.args.job.now c.args.at _ number, number)
-    (places_there c.args.job.now c.args.at c.args.rows.now c.requires.1 (λ e. c.if-count-eq0.false (number ∙ e)))
+    record {
+      placed = rw (members_part c.args.job.now c.args.at _ number, number)
+          (places_there c.args.job.now c.args.at c.args.rows.now c.requires.1 (λ e. c.if-count-eq0.false (number ∙ e)));
+    }
 
 pub returns : goal.returns
 unfolding offers_at

@@ -1,48 +1,51 @@
-use mathlib.Core.Path.{refl, sym, ◌∙◌, ap}
-use mathlib.Core.Bool.{not}
-use native.Mathlib.Omega.{arith}
+use mathlib.Core.Path.{◌≡◌, refl, sym, ◌∙◌, ap}
+use mathlib.Core.Bool.{Bool, true, false, not, ◌&&◌}
 use borrow.Author.Tests.{lt-ltb, le-ltb}
-use Rattle.matching.specs.Order.{same_face}
-use Rattle.matching.specs.Rows.{face_of_row}
+use lib.Dec.{ltb}
+use Rattle.matching.specs.Matching.{place_or}
+use Rattle.matching.specs.Rows.{place_row}
 use Rattle.query.specs.CallTables.{is_held, held_row}
-use Rattle.query.specs.Listed.{default_offered}
+use Rattle.query.specs.Listed.{equals_chosen, default_offered}
 use Rattle.query.proofs.families.offers_default.Goals as goal
+use Rattle.query.proofs.families.offers_default.Goals.{then-default-family, else-default-family, Joined-default-family}
 
-pub returns-then-count-default : goal.returns-then-count-default
-unfolding default_offered
-returns-then-count-default c = let a = c.args in rw (le-ltb a.default a.count c.if-count-default.true) refl
+-- the first two tests
+held : (c : Joined-default-family) → c.if-default-family.value ≡ ltb c.args.default c.args.family.count && held_row c.args.family.rows.now c.args.family.members.now c.args.default
+unfolding held_row
+held c =
+    elim c.if-default-family.branch [
+      | then-default-family w ↦ rw (lt-ltb c.args.default c.args.family.count w.if-default-family.true) (w.value-is ∙ w.is_held.ensures ∙ ap is_held w.row.ensures)
+      | else-default-family w ↦ w.value-is ∙ rw (le-ltb c.args.default c.args.family.count w.if-default-family.false) refl
+    ]
 
-pub place_row-face-requires : goal.place_row-face-requires
-place_row-face-requires c = c.requires.each _ (omega arith)
+-- and all three
+both : (a b e : Bool) → a && b ≡ true → not e ≡ a && (b && not e)
+both true true e h = refl
+both true false e h = cc
+both false b e h = cc
 
-pub place_row-requires : goal.place_row-requires
-place_row-requires c = c.requires.each _ (omega arith)
-
-pub returns-then-chosen-count : goal.returns-then-chosen-count
-unfolding default_offered held_row
-returns-then-chosen-count c =
-    let a = c.args in
-    rw (
-      lt-ltb a.default a.count c.if-count-default.false,
-      sym (ap is_held c.place_row-face.ensures) ∙ sym c.is_held.ensures ∙ c.if-is_held.true,
-      lt-ltb a.chosen a.count c.if-chosen-count.true,
-    ) (ap not (c.same_face.ensures ∙ (λ k. same_face (face_of_row (c.place_row-face.ensures k)) (face_of_row (c.place_row.ensures k)))))
+none : (a b e : Bool) → a && b ≡ false → false ≡ a && (b && not e)
+none true true e h = cc
+none true false e h = refl
+none false b e h = refl
 
 pub returns-then-is_held : goal.returns-then-is_held
-unfolding default_offered held_row
+unfolding default_offered
 returns-then-is_held c =
-    let a = c.args in
-    rw (
-      lt-ltb a.default a.count c.if-count-default.false,
-      sym (ap is_held c.place_row-face.ensures) ∙ sym c.is_held.ensures ∙ c.if-is_held.true,
-      le-ltb a.chosen a.count c.if-chosen-count.false,
-    ) refl
+    let family = c.args.family in
+    let d = c.args.default in
+    let equals = equals_chosen family.rows.now family.members.now family.count (place_or family.count c.args.chosen) in
+    let found = c.equals_chosen.ensures ∙ ap equals c.row-then-is_held.ensures in
+    ap not found
+    ∙ both (ltb d family.count) (held_row family.rows.now family.members.now d) (equals (place_row family.rows.now family.members.now d))
+    (sym (held (goal.at.returns-then-is_held c).Joined-default-family) ∙ c.if-is_held.true)
 
-pub returns : goal.returns
-unfolding default_offered held_row
-returns c =
-    let a = c.args in
-    rw (
-      lt-ltb a.default a.count c.if-count-default.false,
-      sym (ap is_held c.place_row-face.ensures) ∙ sym c.is_held.ensures ∙ c.if-is_held.false,
-    ) refl
+pub returns-else-is_held : goal.returns-else-is_held
+unfolding default_offered
+returns-else-is_held c =
+    let family = c.args.family in
+    let d = c.args.default in
+    c.if-is_held.false
+    ∙ none (ltb d family.count) (held_row family.rows.now family.members.now d)
+    (equals_chosen family.rows.now family.members.now family.count (place_or family.count c.args.chosen) (place_row family.rows.now family.members.now d))
+    (sym (held (goal.at.returns-else-is_held c).Joined-default-family) ∙ c.if-is_held.false)

@@ -1,22 +1,18 @@
+use Rattle.std.proofs.Common.{rules}
 use mathlib.Core.Path.{sym, ◌∙◌}
-use Prim.Native.Nat.{◌+◌}
-use lib.ListN.{length}
-use native.Mathlib.Omega.{arith}
-use borrow.Author.Tests.{ltb-true, ltb-false}
-use Rattle.query.proofs.Fonts.{past_length, past_font, sized}
+use Rattle.font.specs.Tables.{u32_at}
+use Rattle.query.specs.Fields.{sized_file, word, font_bytes}
+use Rattle.query.proofs.Ends.{refuses, goes_on}
+use Rattle.query.proofs.Leaves.{word_read}
+use Rattle.query.proofs.Fonts.{placed_bytes}
 use Rattle.query.proofs.fields.sized_file.Goals as goal
 
-pub returns-then-past : goal.returns-then-past
-returns-then-past c = past_length _ _ (ltb-true (length c.args.job.now) (c.args.at + 4) (sym c.past.ensures ∙ c.if-past.true))
-
-pub overflow_add-start : goal.overflow_add-start
-overflow_add-start c = omega (arith, ltb-false (length c.args.job.now) (c.args.at + 4) (sym c.past.ensures ∙ c.if-past.false))
-
-pub returns-then-past-2 : goal.returns-then-past-2
-returns-then-past-2 c = past_font _ _ _ c.u32_at-size.ensures (ltb-false (length c.args.job.now) (c.args.at + 4) (sym c.past.ensures ∙ c.if-past.false)) (ltb-true (length c.args.job.now) (c.args.at + 4 + c.u32_at-size.result) (sym c.past-2.ensures ∙ c.if-past-2.true))
-
-pub overflow_add-end : goal.overflow_add-end
-overflow_add-end c = omega (arith, ltb-false (length c.args.job.now) (c.args.at + 4 + c.u32_at-size.result) (sym c.past-2.ensures ∙ c.if-past-2.false))
+pub returns-in_err-start : goal.returns-in_err-start
+unfolding sized_file word
+returns-in_err-start c = refuses word (font_bytes c.args.at) _ _ _ _ c.from_residual.ensures.1 (c.in_err-start.ensures u32_at)
 
 pub returns : goal.returns
-returns c = sized _ _ _ c.u32_at-size.ensures (ltb-false (length c.args.job.now) (c.args.at + 4 + c.u32_at-size.result) (sym c.past-2.ensures ∙ c.if-past-2.false))
+unfolding sized_file word
+returns c =
+    goes_on word (font_bytes c.args.at) _ _ (c.in_ok-start.ensures u32_at)
+    (λ v e. placed_bytes _ _ _ _ _ _ (rw (c.u32_at-size.ensures ∙ sym (word_read _ _ _ _ e).value) at c.bytes-2.ensures u32_at) c.map_err.ensures.cases (λ why moved h. search rules))

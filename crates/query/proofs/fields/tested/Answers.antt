@@ -1,22 +1,13 @@
-use mathlib.Core.Path.{sym, ◌∙◌}
-use Prim.Native.Nat.{◌+◌}
-use lib.ListN.{length}
-use native.Mathlib.Omega.{arith}
-use borrow.Author.Tests.{le-leb, lt-leb, ltb-true, ltb-false}
-use Rattle.query.specs.Fields.{field_end}
+use mathlib.Core.Bool.{true, false}
+use Rattle.font.specs.Tables.{u16_at}
+use Rattle.query.proofs.Ends.{lacks_field, has_field}
 use Rattle.query.proofs.fields.tested.Goals as goal
 
-pub returns-then-past : goal.returns-then-past
-unfolding field_end
-returns-then-past c = simp (lt-leb _ _ (ltb-true (length c.args.job.now) (c.args.at + c.args.size) (sym c.past.ensures ∙ c.if-past.true)))
-
-pub overflow_add-next : goal.overflow_add-next
-overflow_add-next c = omega (arith, ltb-false (length c.args.job.now) (c.args.at + c.args.size) (sym c.past.ensures ∙ c.if-past.false))
+pub returns-in_err-next : goal.returns-in_err-next
+returns-in_err-next c = lacks_field _ _ _ _ _ _ _ _ c.from_residual.ensures.1 (c.in_err-next.ensures u16_at)
 
 pub returns-then-ok : goal.returns-then-ok
-unfolding field_end
-returns-then-ok c = simp (le-leb _ _ (ltb-false (length c.args.job.now) (c.args.at + c.args.size) (sym c.past.ensures ∙ c.if-past.false)), c.if-ok.true)
+returns-then-ok c = rw c.if-ok.true (has_field _ u16_at _ _ _ true c.args.refusal (c.in_ok-next.ensures u16_at))
 
 pub returns-else-ok : goal.returns-else-ok
-unfolding field_end
-returns-else-ok c = simp (le-leb _ _ (ltb-false (length c.args.job.now) (c.args.at + c.args.size) (sym c.past.ensures ∙ c.if-past.false)), c.if-ok.false)
+returns-else-ok c = rw c.if-ok.false (has_field _ u16_at _ _ _ false c.args.refusal (c.in_ok-next.ensures u16_at))

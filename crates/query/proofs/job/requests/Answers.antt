@@ -1,14 +1,30 @@
-use Rattle.query.proofs.WalkCases.{no_requests, bytes_follow, all_requests}
+use mathlib.Core.Path.{refl}
 use borrow.Author.Rules.{rules}
+use Rattle.std.proofs.lemmas.Result.{err_from_is_err_and}
+use Rattle.font.specs.Refusals as Refusals
+use Rattle.font.proofs.Refusals.{not_zero}
+use Rattle.query.specs.Reader.{end_in}
+use Rattle.query.specs.Sections.{Requests}
+use Rattle.query.specs.Positions.{walk_in}
+use Rattle.query.proofs.Leaves.{entry_begins}
+use Rattle.query.proofs.WalkCases.{no_requests, bytes_follow, all_requests}
 use Rattle.query.proofs.job.requests.Goals as goal
 
-pub returns-then-end-ne0 : goal.returns-then-end-ne0
-returns-then-end-ne0 c = no_requests _ _ _ c.read_section-end.ensures.value c.if-end-ne0.true c.stopped.ensures
+pub read_section-requires-clause-begins : goal.read_section-requires-clause-begins
+read_section-requires-clause-begins c = λ p q h. entry_begins Requests c.args.job.now p q c.requires (search rules)
 
-pub returns-then-next-job : goal.returns-then-next-job
-returns-then-next-job c = bytes_follow _ _ _ c.read_section-end.ensures.value c.if-end-ne0.false c.if-next-job.true c.stopped-then-next-job.ensures
+pub returns-in_err-position : goal.returns-in_err-position
+unfolding end_in walk_in
+returns-in_err-position c =
+    let p = err_from_is_err_and c.from_residual.result c.from_residual.ensures.1 in
+    rw (p.1, p.2) (no_requests _ _ _ (c.in_err-position.ensures Requests refl (λ p x h. search rules)).value (not_zero _))
+
+pub returns-then-position-job : goal.returns-then-position-job
+unfolding end_in walk_in Refusals.number
+returns-then-position-job c = bytes_follow _ _ _ (c.in_ok-position.ensures Requests refl (λ p x h. search rules)).value refl c.if-position-job.true
 
 pub returns : goal.returns
+unfolding end_in walk_in
 returns c =
-    let read = c.read_section-end.ensures in
-    all_requests _ _ _ read.value c.if-end-ne0.false c.if-next-job.false c.u16_at.ensures read.noted_section (search rules) c.wide.ensures.0
+    let read = c.in_ok-position.ensures Requests refl (λ p x h. search rules) in
+    all_requests _ _ _ read.value refl c.if-position-job.false c.u16_at.ensures read.noted (search rules) c.wide.ensures.0

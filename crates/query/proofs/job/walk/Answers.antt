@@ -1,11 +1,11 @@
-use Rattle.query.proofs.WalkCases.{too_long, to_the_end, not_to_the_end}
+use Rattle.font.specs.Refusals as Refusals
+use Rattle.query.specs.Positions.{walk_in}
+use Rattle.query.proofs.WalkCases.{too_long, to_the_end}
 use Rattle.query.proofs.job.walk.Goals as goal
 
 pub returns-then-job-gt-MOST_BYTES : goal.returns-then-job-gt-MOST_BYTES
-returns-then-job-gt-MOST_BYTES c = too_long c.if-job-gt-MOST_BYTES.true c.stopped.ensures
-
-pub returns-then-found-eq0 : goal.returns-then-found-eq0
-returns-then-found-eq0 c = to_the_end c.if-job-gt-MOST_BYTES.false c.whole-found.ensures c.if-found-eq0.true
+unfolding walk_in Refusals.number
+returns-then-job-gt-MOST_BYTES c = too_long _ c.if-job-gt-MOST_BYTES.true
 
 pub returns : goal.returns
-returns c = not_to_the_end c.if-job-gt-MOST_BYTES.false c.whole-found.ensures c.if-found-eq0.false
+returns c = to_the_end c.if-job-gt-MOST_BYTES.false c.whole.ensures

@@ -1,9 +1,6 @@
-use Prim.Native.Nat.{◌-◌, ◌≤◌}
+use Rattle.font.specs.Slant.{reading_number}
 use Rattle.query.proofs.RowsAfter.{FacesLeft}
 use Rattle.query.proofs.loading.load_faces.Given as goal
 
-abbrev pub invariant-loop-i : goal.invariant-loop-i
-invariant-loop-i l = (l.i ≤ l.count) × FacesLeft l.reading l.job l.at l.count l.i l.place l.initial.rows l.rows
-
-abbrev pub decreases-loop-i : goal.decreases-loop-i
-decreases-loop-i l = l.count - l.i
+abbrev pub invariant-loop-row : goal.invariant-loop-row
+invariant-loop-row l = FacesLeft (reading_number l.reading) l.job l.at l.count l.row-index l.place l.initial.row-items l.row-items

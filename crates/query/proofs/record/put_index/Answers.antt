@@ -1,16 +1,18 @@
-use mathlib.Core.Path.{refl, ◌∙◌, ap}
-use mathlib.Core.List.{[], ◌∷◌, append_assoc}
-use Rattle.query.specs.Layout.{bytes16}
+use mathlib.Core.Path.{◌∙◌}
+use mathlib.Core.List.{append_assoc}
+use native.Mathlib.Omega.{arith}
 use Rattle.query.specs.Record.{index_bytes}
-use Rattle.query.proofs.Written.{put_on}
+use Rattle.query.proofs.Written.{word_bytes, flag_byte}
 use Rattle.query.proofs.record.put_index.Goals as goal
 
 pub returns : goal.returns
-unfolding bytes16 index_bytes
+unfolding index_bytes
 returns c =
-    put_on c.put_half.ensures
-    (put_on c.put_byte-2.ensures
-    (put_on c.put_byte.ensures c.put_word.ensures (ap (λ n. n ∷ []) c.flag.ensures))
-    (ap (λ n. n ∷ []) c.flag-2.ensures))
-    refl
-    ∙ simp append_assoc
+    simp (
+      c.put-2.ensures,
+      c.put.ensures,
+      c.to_be_bytes.ensures ∙ word_bytes c.args.index.subtable_offset (omega arith),
+      c.from-symbol.ensures ∙ flag_byte c.args.index.is_symbol,
+      c.from-mac_roman.ensures ∙ flag_byte c.args.index.is_mac_roman,
+      append_assoc,
+    )

@@ -1,28 +1,24 @@
-use Prim.Native.Nat.{◌+◌}
-use mathlib.Core.Path.{refl, sym, subst}
-use mathlib.Core.Bool.{not}
+use Prim.Native.Nat.{◌+◌, ◌<◌}
+use mathlib.Core.List.{append_assoc}
+use mathlib.Core.Path.{◌≡◌, ◌∙◌}
 use native.Mathlib.Omega.{arith}
-use lib.Dec.{T}
-use lib.ListN.{take}
+use lib.Ieee.{binary32, to_bits}
+use lib.Ieee.Bits.{to_bits-lt}
 use Rattle.query.specs.Record.{slot_bytes}
-use Rattle.query.proofs.Written.{then_put}
+use Rattle.query.specs.Layout.{bytes32, bytes16}
+use Rattle.query.proofs.Written.{word_bytes}
+use borrow.Author.Rules.{rules}
 use Rattle.query.proofs.record.put_slot.Goals as goal
-
-pub float_to_bits-value : goal.float_to_bits-value
-float_to_bits-value c = subst (λ b. T (not b)) (sym (c.requires.1 c.if-used.true)) tt
 
 pub returns-then-used : goal.returns-then-used
 unfolding slot_bytes
 returns-then-used c =
-    let at = c.args.at in
-    rw c.if-used.true
-    (then_put (take at c.args.out.now) _ _ _ _ _ (at + 4) (at + 4 + 4) (at + 8) (omega arith)
-    c.put_word.ensures c.put_word-then-used.ensures refl)
+    let end : c.args.at + 8 ≡ c.args.at + 4 + 4 = omega arith in
+    let low : to_bits binary32 c.args.setting.value < 4294967296 = to_bits-lt binary32 c.args.setting.value (search rules) in
+    let tag = c.to_be_bytes.ensures ∙ word_bytes c.args.setting.tag (omega arith) in
+    let value = c.to_be_bytes-then-used.ensures ∙ word_bytes (to_bits binary32 c.args.setting.value) low in
+    simp (end, c.put-then-used.ensures, c.put.ensures, tag, value, c.if-used.true, append_assoc)
 
 pub returns-else-used : goal.returns-else-used
-unfolding slot_bytes
-returns-else-used c =
-    let at = c.args.at in
-    rw c.if-used.false
-    (then_put (take at c.args.out.now) _ _ _ _ _ (at + 4) (at + 4 + 4) (at + 8) (omega arith)
-    c.put_word-else-used.ensures c.put_word-else-used-2.ensures refl)
+unfolding slot_bytes bytes32 bytes16
+returns-else-used c = simp (c.put-else-used.ensures, c.if-used.false)

@@ -1,37 +1,64 @@
 use mir.Syntax.{w8}
 use mir.Facts.{to_z-of_z}
-use Prim.Native.Nat.{◌≤◌}
-use mathlib.Core.Path.{refl, sym, ◌∙◌, ap}
+use Prim.Native.Nat.{ℕ, ◌≤◌}
+use mathlib.Core.Path.{◌≡◌, refl, sym, ◌∙◌, ap}
+use mathlib.Core.Bool.{true, false}
 use mathlib.Core.List.{append_assoc}
 use native.Mathlib.Omega.{arith}
-use lib.ListN.{length}
-use borrow.Author.Tests.{ltb-true}
+use lib.Dec.{ltb}
+use lib.Ieee.{is_nan, nan}
+use lib.ListN.{length, get_or, get_or-map}
 use lib.Seq.{take_all}
-use Rattle.query.specs.Sizes.{record_size}
-use Rattle.query.specs.Record.{head_bytes, slot_at, record_bytes}
-use Rattle.query.proofs.Written.{put_on}
+use borrow.Author.Tests.{ltb-true}
 use borrow.Author.Rules.{rules}
+use Rattle.matching.specs.declared.synthesis.Setting.{Setting}
+use Rattle.matching.specs.declared.synthesis.Synthesis.{Synthesis}
+use Rattle.matching.specs.Synthesis.{laid_out}
+use Rattle.query.specs.Sizes.{record_size}
+use Rattle.query.specs.Record.{head_bytes, slot_bytes, slot_at, Numbers, record_bytes}
+use Rattle.query.proofs.Written.{put_on}
 use Rattle.query.proofs.record.write_record.Goals as goal
 
+-- a slot's setting, as it is laid out
+module _ (s : Synthesis) (i : ℕ) where
+  abbrev there : Setting
+  there = get_or s.settings i (record { tag = 0; value = nan })
+
+  value_there : get_or (laid_out s).values i nan ≡ there.value
+  unfolding laid_out
+  value_there = get_or-map (λ (x : Setting). x.value) s.settings i (record { tag = 0; value = nan })
+
+  tag_there : get_or (laid_out s).tags i 0 ≡ there.tag
+  unfolding laid_out
+  tag_there = get_or-map (λ (x : Setting). x.tag) s.settings i (record { tag = 0; value = nan })
+
+  no_nan : Numbers (laid_out s) → ltb i s.len ≡ true → is_nan there.value ≡ false
+  unfolding laid_out
+  no_nan numbers used = ap is_nan (sym value_there) ∙ numbers i (ltb-true i s.len used)
+
+  slot_is : slot_bytes (ltb i s.len) there.tag there.value ≡ slot_at s.len (laid_out s).tags (laid_out s).values i
+  unfolding slot_at
+  slot_is = rw (value_there, tag_there)
+
 pub put_slot-requires : goal.put_slot-requires
-put_slot-requires c = (search rules, λ e. c.requires.2 0 (ltb-true 0 _ e))
+put_slot-requires c = (search rules, no_nan c.args.synthesis 0 c.requires.2)
 
 pub put_slot-requires-2 : goal.put_slot-requires-2
-put_slot-requires-2 c = (search rules, λ e. c.requires.2 1 (ltb-true 1 _ e))
+put_slot-requires-2 c = (search rules, no_nan c.args.synthesis 1 c.requires.2)
 
 pub put_slot-requires-3 : goal.put_slot-requires-3
-put_slot-requires-3 c = (search rules, λ e. c.requires.2 2 (ltb-true 2 _ e))
+put_slot-requires-3 c = (search rules, no_nan c.args.synthesis 2 c.requires.2)
 
 pub returns : goal.returns
-unfolding record_bytes slot_at
+unfolding record_bytes laid_out
 returns c =
     let s = c.args.synthesis in
-    let l : length c.put_index.new.out ≤ record_size = omega (arith, c.put_index.auto.out) in
-    sym (take_all record_size c.put_index.new.out l)
+    let long : length c.put_index.new.out ≤ record_size = omega (arith, c.put_index.auto.out) in
+    sym (take_all record_size c.put_index.new.out long)
     ∙ put_on c.put_index.ensures
     (put_on c.put_slot-3.ensures
     (put_on c.put_slot-2.ensures
-    (put_on c.put_slot.ensures (c.put_head.ensures ∙ ap (λ z. head_bytes c.args.offer s.embolden z s.len) (to_z-of_z {w = w8} {z = s.skew} (record { sfits = search rules }))) refl) refl)
-    refl)
+    (put_on c.put_slot.ensures (c.put_head.ensures ∙ ap (λ z. head_bytes c.args.offer s.embolden z s.len) (to_z-of_z {w = w8} {z = s.skew} (record { sfits = search rules }))) (slot_is s 0)) (slot_is s 1))
+    (slot_is s 2))
     refl
     ∙ simp append_assoc

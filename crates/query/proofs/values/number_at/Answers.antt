@@ -6,7 +6,6 @@ use lib.Ieee.{binary32, of_bits, of_int, round}
 use lib.Ieee.Scale.{finite}
 use Rattle.font.specs.Single.{single}
 use Rattle.font.specs.Tables.{u32_at}
-use Rattle.font.proofs.FiniteBits.{finite_no_nan}
 use Rattle.query.specs.Values.{number_at}
 use Rattle.query.proofs.values.number_at.Goals as goal
 
@@ -14,13 +13,6 @@ use Rattle.query.proofs.values.number_at.Goals as goal
 number_none : (s : List ℕ) (p b : ℕ) → b ≡ u32_at s p → finite (of_bits binary32 b) ≡ false → single 0 ≡ number_at s p
 unfolding number_at
 number_none s p b e h = rw (← e, h)
-
-pub float_from_bits-result : goal.float_from_bits-result
-float_from_bits-result c = rw (finite_no_nan c.u32_at-bits.result (sym c.finite_bits.ensures ∙ c.if-finite_bits.true)) tt
-
-pub returns-then-finite_bits : goal.returns-then-finite_bits
-unfolding number_at
-returns-then-finite_bits c = rw (← c.u32_at-bits.ensures, ← c.finite_bits.ensures, c.if-finite_bits.true)
 
 pub returns-else-finite_bits : goal.returns-else-finite_bits
 unfolding single of_bits of_int round
