@@ -39,6 +39,7 @@ pub struct Attributes {
 impl FontWidth {
     pub const NORMAL: FontWidth = FontWidth { ratio: 1.0 };
 
+    // The original's name, as that of a weight is: what is given is all of either type.
     pub fn new(ratio: f32) -> Self
         ensures { result.ratio ≡ ratio }
     {

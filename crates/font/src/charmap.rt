@@ -76,7 +76,8 @@ fn is_better(class: Class, best: Option<BestRecord>) -> bool
     }
 }
 
-// The number of the first records that are looked at: those that the table states and that lie whole in it.
+// The number of the first records that are looked at: those that the table states and that lie whole in it. The table's four bytes
+// are asked here and by the two that call this, one below the other.
 fn whole_records(cmap: &[u8]) -> usize
     requires { 4 ≤ length cmap.now }
     ensures { result ≡ min (u16_at cmap.now 2) ((length cmap.now - 4) / 8) }
@@ -151,7 +152,7 @@ pub(crate) fn has_index_in(directory: Directory) -> bool
 }
 
 impl CharmapIndex {
-    // The zeros that stand for none.
+    // The zeros that stand for none, in a face that is refused for it.
     pub const NONE: CharmapIndex = CharmapIndex {
         subtable_offset: 0,
         is_symbol: false,

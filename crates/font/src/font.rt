@@ -38,6 +38,7 @@ pub struct AxisInfo {
 }
 
 impl AxisInfo {
+    // What stands where a face has no axis: the array is fixed.
     pub const NONE: AxisInfo = AxisInfo {
         tag: 0,
         min: 0.0,
@@ -46,8 +47,8 @@ impl AxisInfo {
     };
 }
 
-// A face by value. Axes past the count are no part of it: the array is fixed, since there is no heap, and calls on a face refuse a
-// larger count.
+// A face by value. Axes past the count are no part of it: the array is fixed, since the library allocates nothing, and calls on a
+// face refuse a larger count.
 #[derive(Clone, Copy)]
 pub struct FontInfo {
     pub attributes: Attributes,
@@ -243,7 +244,8 @@ impl FontInfo {
         charmap_index: CharmapIndex::NONE,
     };
 
-    // The face of the font of a number under a reading, or the refusal 21, 22, 23, 25, 30 or 31.
+    // The face of the font of a number under a reading, or the refusal 21, 22, 23, 25, 30 or 31. The three are not one value: other
+    // calls take two of them, and each a different two.
     #[tactic(auto, using(std::proofs::lemmas::Result::err_from_is_err_and, crate::proofs::FaceOf::answered_none, crate::proofs::FaceOf::answered_font, crate::proofs::FaceOf::not_refused, crate::proofs::FaceOf::answered_face), unfolding(crate::specs::Refusals::refusal_in))]
     pub fn from_font_ref(file: &[u8], reading: u32, number: u16) -> Result<FontInfo, Refusal>
         ensures { checked empty_font result ≡ from_font_ref reading file.now number }
@@ -254,7 +256,8 @@ impl FontInfo {
     }
 }
 
-// The face of the font of a number under a reading, which `from_font_ref` does not refuse.
+// The face of the font of a number under a reading, which `from_font_ref` does not refuse. A type of fonts that are not refused
+// would have to be held for each face between two calls: a job's tables have no room for that.
 pub fn read_font(file: &[u8], reading: Reading, number: u16) -> FontInfo
     requires { refusal_under (reading_number reading) file.now number ≡ 0 }
     ensures { result ≡ face_of (reading_number reading) file.now (font_start file.now number) }
@@ -343,7 +346,7 @@ fn states_axis(directory: Directory, tag: u32) -> bool
 }
 
 // The attributes that the font of a number states under a reading, and whether it gives an axis with the tag.
-// `from_font_ref` does not refuse it.
+// `from_font_ref` does not refuse it, which is asked for the reason that `read_font` names.
 #[tactic(auto, using(crate::proofs::FaceOf::fits_taken), unfolding(crate::specs::Font::stated_at))]
 pub fn read_stated(file: &[u8], reading: Reading, number: u16, tag: u32) -> Stated
     requires { refusal_under (reading_number reading) file.now number ≡ 0 }

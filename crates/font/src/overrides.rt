@@ -30,7 +30,7 @@ pub fn override_attributes(own: Attributes, o: FontInfoOverride) -> Attributes
     )
 }
 
-// The first axis with the tag.
+// The first axis with the tag: one expression, as in matching's `place_in`.
 fn first_axis(axes: &[AxisInfo], tag: u32) -> Option<usize>
     ensures { result ≡ position (λ axis. eqb axis.tag tag) axes.now }
 {
@@ -117,7 +117,7 @@ pub fn face_refusal(font: FontInfo) -> Result<(), Refusal>
 
 impl FontInfo {
     // The attributes that are present in the override replace the face's; then each pair sets the default of the first
-    // axis with its tag. Of tags and values the shorter says how many pairs there are: one list of pairs could not be uneven.
+    // axis with its tag. Of tags and values the shorter says how many pairs there are: two lists, since either may be the longer.
     #[tactic(auto, using(crate::proofs::Refusals::by_value, crate::proofs::Defaults::one_by_one, std::proofs::lemmas::Slice::Zip::zip_turn, std::proofs::lemmas::Slice::Zip::zip_end), unfolding(crate::specs::Overrides::apply_override, crate::specs::Overrides::with_override, crate::specs::Overrides::with_defaults, crate::specs::Overrides::with_axes, crate::specs::Overrides::pair_count, crate::specs::Refusals::refusal_in))]
     pub fn apply_override(
         self,

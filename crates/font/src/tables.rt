@@ -37,7 +37,7 @@ fn swapped_u32_in(s: &[u8], at: usize) -> u32
     u32::from_le_bytes([s[at], s[at + 1], s[at + 2], s[at + 3]])
 }
 
-// The 16-bit field at a position, or 0 where it does not lie whole in the bytes.
+// The 16-bit field at a position, or 0 where it does not lie whole in the bytes: it asks nothing of the position.
 pub fn u16_at(s: &[u8], at: usize) -> u16
     ensures { result ≡ u16_at s.now at }
 {

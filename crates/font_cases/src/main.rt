@@ -52,7 +52,7 @@ fn print_list(rt: &impl Print, list: &[u8]) -> io::Result<()> {
     Ok(())
 }
 
-// A list has at most 327,680 bytes: what lies past them is not read.
+// A list has at most 327,680 bytes: what lies past them is not read. An array of that size can be checked, and nothing can run out.
 fn main(rt: HostRuntime) -> io::Result<()> {
     let mut space = [0u8; 327680];
     let n = input::read_full(&rt, &mut space)?;

@@ -22,13 +22,14 @@ use output::words;
 use std::io;
 use std::io::Read;
 
-// Reading. What lies past the end reads as zeros.
+// Reading. What lies past the end reads as zeros. `query` has the like for a job and keeps them to itself; a list of faces has
+// another layout.
 
 fn byte_at(s: &[u8], at: usize) -> u8 {
     s.get(at).copied().unwrap_or(0)
 }
 
-// The single of a bit pattern, or 0 for a NaN's, which the list does not hold.
+// The single of a bit pattern, or 0 for a NaN's, which the list does not hold. By the bits: `from_bits` asks that they are no NaN's.
 fn single_of(bits: u32) -> f32 {
     if bits % 0x8000_0000 <= 0x7F80_0000 {
         return f32::from_bits(bits);
@@ -40,6 +41,7 @@ fn single_at(s: &[u8], at: usize) -> f32 {
     single_of(tables::u32_at(s, at))
 }
 
+// A position is bounded where a sum is made with it, as in the crate `query`.
 fn style_at(s: &[u8], at: usize) -> FontStyle
     requires { at < 2 ^ 32 }
 {
@@ -209,7 +211,8 @@ fn print_case(rt: &impl Print, case: &[u8]) -> io::Result<usize>
     Ok(end)
 }
 
-// The position goes on by what each case takes. `offer_cases` has the same loop: in a library it would have nothing to promise.
+// The position goes on by what each case takes. `offer_cases` has the same loop and `main`: shared, they would take a closure that
+// prints, and be no shorter.
 fn print_list(rt: &impl Print, list: &[u8]) -> io::Result<()> {
     let mut at: usize = 0;
     while at < list.len() {

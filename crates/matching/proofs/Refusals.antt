@@ -1,5 +1,5 @@
 -- The numbers of refusals.
-use Rattle.std.proofs.Common.{arith, ◌≡◌, ℕ, ◌≤◌, Bool, Result, Ok, Err, eqb, refl, sym, ◌∙◌, ap}
+use Rattle.std.proofs.Common.{◌≡◌, ℕ, Bool, Result, Ok, Err, eqb, refl, sym, ◌∙◌, ap}
 use Rattle.std.specs.Result.{result_eq}
 use denote.Enum.Bare.{sameb}
 use Rattle.font.specs.Refusals.{refusal_in, number}

@@ -42,6 +42,11 @@ either_step false false false false = refl
 abbrev pub refusal_below : List FontInfo → ℕ → ℕ
 refusal_below fonts i = cond (some (refused fonts 19) i) 19 (cond (some (refused fonts 26) i) 26 0)
 
+-- each of at most 64 places has its own row
+pub each_own : (n : ℕ) (rows : List Row) → length rows ≡ 64 → n ≤ 64 → Placed rows [] n
+unfolding number_at
+each_own n rows e h = record { few = h; each = λ i l. record { below = omega arith; number = λ d. absurd (d refl); known = omega (arith, e) } }
+
 module _ (fonts : List FontInfo) where
   pub refusal_none : 0 ≡ refusal_below fonts 0
   unfolding some
@@ -76,7 +81,7 @@ module _ (fonts : List FontInfo) where
   pub taken_none : (rows : List Row) → length rows ≡ 64 → Taken 0 rows 0
   taken_none rows e = record { filled = filled_none no_row (λ j. face_row (get_or fonts j no_face)) rows e; refuses = refusal_none }
 
-  -- a turn of `take_faces`
+  -- a face more
   pub taken_more : (i : ℕ) {rows after : List Row} {before next : ℕ} → Taken i rows before → i < 64
       → next ≡ either_refusal before (face_refusal (get_or fonts i no_face))
       → after ≡ set rows i (face_row (get_or fonts i no_face))
@@ -101,10 +106,6 @@ module _ (fonts : List FontInfo) where
     pub choice_of : (request : Request) → choice (family_of_rows rows [] n) request ≡ choice (family_of fonts n) request
     pub equal_of : (chosen : ℕ) → equal_places (family_of_rows rows [] n) chosen ≡ equal_places (family_of fonts n) chosen
     pub default_of : default_place (family_of_rows rows [] n) ≡ default_place (family_of fonts n)
-
-  each_own : (n : ℕ) (rows : List Row) → length rows ≡ 64 → n ≤ 64 → Placed rows [] n
-  unfolding number_at
-  each_own n rows e h = record { few = h; each = λ i l. record { below = omega arith; number = λ d. absurd (d refl); known = omega (arith, e) } }
 
   pub whole : (n : ℕ) (rows : List Row) → TakenRows fonts n rows → Whole n rows
   whole n rows t = record {

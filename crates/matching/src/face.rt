@@ -6,7 +6,7 @@ ghost use Rattle.matching.specs.Matching.{attributes_from};
 ghost use Rattle.matching.specs.Synthesis.{varies_of, synthesis_refusal, synthesis_of, synthesis_in};
 
 use crate::synthesis::{Synthesis, Varies};
-use crate::{axes, synthesis};
+use crate::{axes, matching, synthesis};
 use font::attributes::{Attributes, FontStyle, FontWeight, FontWidth};
 use font::font::FontInfo;
 use font::overrides;
@@ -34,11 +34,8 @@ fn synthesis_refusal(font: FontInfo, reading: u32, request: Attributes) -> Resul
 {
     let reading = Reading::try_from(reading)?;
     overrides::face_refusal(font)?;
-    if request.accepted() {
-        Ok(reading)
-    } else {
-        Err(Refusal::BadNumber)
-    }
+    matching::request_refusal(request)?;
+    Ok(reading)
 }
 
 // The synthesis that brings a face to the requested attributes, under a reading.

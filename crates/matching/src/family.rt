@@ -8,7 +8,7 @@ use font::font::FontInfo;
 use font::refusal::Refusal;
 
 // The faces of a family by value, with the place of its default. Faces past the count are no part of it: the array is fixed,
-// since there is no heap.
+// since the library allocates nothing.
 #[derive(Clone, Copy)]
 pub struct FamilyInfo {
     pub fonts: [FontInfo; 64],
@@ -23,11 +23,7 @@ impl FamilyInfo {
     {
         let mut rows = [Row::BLANK; 64];
         matching::take_faces(&fonts, count, &mut rows)?;
-        let family = FamilyRows {
-            rows: &rows,
-            members: &[],
-            count,
-        };
+        let family = FamilyRows::of_faces(&rows, count);
         Ok(FamilyInfo {
             fonts,
             count,

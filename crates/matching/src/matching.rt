@@ -1,5 +1,6 @@
 // Implementation of the CSS font matching algorithm, on a family by value.
-ghost use Rattle.std.specs.Prelude.{◌≡◌, ◌<◌, IfOk, IfSome};
+ghost use Rattle.std.specs.Prelude.{◌≡◌, ◌≤◌, ◌<◌, cond, IfOk, IfSome};
+ghost use Rattle.font.specs.Attributes.{accepted_attributes};
 ghost use Rattle.font.specs.Overrides.{face_refusal};
 ghost use Rattle.font.specs.Refusals.{refusal_in};
 ghost use Rattle.matching.specs.Matching.{style_number, request_of, attributes_from, faces_refusal, family_refusal, match_font, choice_in, ChosenOf, equal_list, matches_in};
@@ -56,7 +57,8 @@ fn either_refusal(before: Result<(), Refusal>, font: FontInfo) -> Result<(), Ref
 
 // Whether a family's faces are refused: over the limit, then for a number that is not accepted.
 pub(crate) fn faces_refusal(fonts: &[FontInfo; 64], count: usize) -> Result<(), Refusal>
-    ensures { refusal_in result ≡ faces_refusal fonts.now count }
+    ensures value { refusal_in result ≡ faces_refusal fonts.now count }
+    ensures few { IfOk result (λ _. count ≤ 64) }
 {
     if 64 < count {
         return Err(Refusal::OverLimit);
@@ -68,7 +70,7 @@ pub(crate) fn faces_refusal(fonts: &[FontInfo; 64], count: usize) -> Result<(), 
     found
 }
 
-// Writes the row of each face of a family, and says whether they are refused.
+// Writes the row of each face of a family, if they are not refused.
 pub(crate) fn take_faces(
     fonts: &[FontInfo; 64],
     count: usize,
@@ -77,15 +79,23 @@ pub(crate) fn take_faces(
     ensures value { refusal_in result ≡ faces_refusal fonts.now count }
     ensures taken { IfOk result (λ _. TakenRows fonts.now count rows.new) }
 {
-    if 64 < count {
-        return Err(Refusal::OverLimit);
-    }
-    let mut refusal = Ok(());
+    faces_refusal(fonts, count)?;
     for (place, font) in fonts[..count].iter().enumerate() {
         rows[place] = Row::of_face(font);
-        refusal = either_refusal(refusal, *font);
     }
-    refusal
+    Ok(())
+}
+
+// Whether a request is refused: for a number that is not accepted.
+#[tactic(auto, unfolding(font::specs::Refusals::refusal_in, font::specs::Refusals::number))]
+pub(crate) fn request_refusal(request: Attributes) -> Result<(), Refusal>
+    ensures { refusal_in result ≡ cond (accepted_attributes request) 0 26 }
+{
+    if request.accepted() {
+        Ok(())
+    } else {
+        Err(Refusal::BadNumber)
+    }
 }
 
 // As `take_faces`, and then whether the request is refused.
@@ -99,11 +109,7 @@ fn take_family(
     ensures taken { IfOk result (λ _. TakenRows fonts.now count rows.new) }
 {
     take_faces(fonts, count, rows)?;
-    if request.accepted() {
-        Ok(())
-    } else {
-        Err(Refusal::BadNumber)
-    }
+    request_refusal(request)
 }
 
 // Writes the rows of a family, and chooses a place.
@@ -119,15 +125,11 @@ fn choose(
     ensures within { IfOk result (λ chosen. IfSome chosen (λ place. place < count)) }
 {
     take_family(fonts, count, request, rows)?;
-    let family = FamilyRows {
-        rows,
-        members: &[],
-        count,
-    };
+    let family = FamilyRows::of_faces(rows, count);
     Ok(family.choose(request_of(request, synthesize_style)))
 }
 
-// The place that stands before every other, if one is chosen.
+// The place that stands before every other, if one is chosen. Faces and request are given as the original's call has them.
 pub fn match_font(
     fonts: [FontInfo; 64],
     count: usize,
@@ -166,10 +168,6 @@ pub fn match_fonts(
     };
     let mut rows = [Row::BLANK; 64];
     let chosen = choose(&fonts, count, request, synthesize_style, &mut rows)?;
-    let family = FamilyRows {
-        rows: &rows,
-        members: &[],
-        count,
-    };
+    let family = FamilyRows::of_faces(&rows, count);
     Ok(family.equal_places(chosen))
 }

@@ -88,7 +88,8 @@ fn italic_standing(style: u32) -> Standing
     Standing::Up(4, 0)
 }
 
-// Where a style that has no angle on the side of an oblique request stands.
+// Where a style that has no angle on the side of an oblique request stands. Its four words are those of the definition, here and in
+// the two functions below.
 #[tactic(auto, using(crate::proofs::Numbers::zero_angle_lem), unfolding(crate::specs::Order::other_standing))]
 fn other_standing(synthesis: bool, slant: bool, wanted: u32, style: u32) -> Standing
     ensures { result ≡ other_standing synthesis slant wanted style }

@@ -10,10 +10,11 @@ pub(crate) enum Standing {
     Nowhere,
 }
 
-// The rank of what is in no group: after every other.
+// The rank of what is in no group: after every other. A number, and no Option: a scan keeps the least in one comparison.
 pub(crate) const NOWHERE: u64 = 0xFFFF_FFFF_FFFF_FFFF;
 
-// A standing and a place as one number, so that the lower number stands before: a scan compares one number for each face.
+// A standing and a place as one number, so that the lower number stands before: a scan compares one number for each face. The bound
+// of a place is asked here and by what ranks: a type of places would be opened at each use.
 pub(crate) fn pack(standing: Standing, place: usize) -> u64
     requires { place < 64 }
     ensures { result ≡ packed standing place }

@@ -70,7 +70,8 @@ pub struct FamilyRows<'a> {
     ghost placed: { Placed rows.now members.now count },
 }
 
-// The number of the row that the face at a place has, by its two bytes: a choice makes no array, and so calls no `from_be_bytes`.
+// The number of the row that the face at a place has. A choice makes no array, not even the one of two bytes that `from_be_bytes`
+// takes.
 fn number_at(members: &[u8], place: usize) -> usize
     requires { (place < 64) × HasNumber members.now place }
     ensures { (result ≡ number_at members.now place) × (result < 65536) }

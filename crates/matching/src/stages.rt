@@ -1,11 +1,11 @@
 // The choice of a face from the rows of a family: scans for the least rank. The faces that remain after a stage are neither
 // copied nor listed: the next one scans the family with a test. And the default and the equal list.
-ghost use Rattle.std.specs.Prelude.{◌≡◌, ℕ, ◌&&◌, ◌<◌, IfSome};
+ghost use Rattle.std.specs.Prelude.{◌≡◌, ℕ, ◌&&◌, ◌≤◌, ◌<◌, [], IfSome};
 ghost use Rattle.matching.specs.Packed.{width_rank, style_rank, weight_rank, asks_slant, slants, largest, Scanned};
 ghost use Rattle.matching.specs.Below.{some};
 ghost use Rattle.matching.specs.Order.{Face, choice, equal_places, laid_out};
 ghost use Rattle.matching.specs.Matching.{default_place, place_or};
-ghost use Rattle.matching.specs.Rows.{face_of_row};
+ghost use Rattle.matching.specs.Rows.{face_of_row, family_of_rows};
 ghost use Rattle.matching.specs.FamilyRows.{family_in, row_in};
 
 use crate::order::Request;
@@ -55,6 +55,18 @@ fn asks_slant(request: Request) -> bool
 }
 
 impl<'a> FamilyRows<'a> {
+    // A family without members.
+    pub(crate) fn of_faces(rows: &'a [Row; 64], count: usize) -> Self
+        requires { count ≤ 64 }
+        ensures { (family_in result ≡ family_of_rows rows.now [] count) × (result.count ≡ count) }
+    {
+        FamilyRows {
+            rows,
+            members: &[],
+            count,
+        }
+    }
+
     // The least rank of the faces, by a closure that ranks the face of a row at a place.
     fn least<F: Fn(Row, usize) -> u64>(self, rank: F) -> u64
         requires { (i : ℕ) → i < self.count → F.pre rank (row_in self i) i }
@@ -113,7 +125,8 @@ impl<'a> FamilyRows<'a> {
         self.choose(request).unwrap_or(0)
     }
 
-    // Every place whose exact ratio, style and weight equal the chosen face's, in place order. No chosen face has none.
+    // Every place whose exact ratio, style and weight equal the chosen face's, in place order. No chosen face has none. The count
+    // goes on by hand: a fixed array is filled from its begin, and no collection grows.
     pub(crate) fn equal_places(self, chosen: Option<usize>) -> Places
         requires { IfSome chosen (λ place. place < self.count) }
         ensures { result ≡ laid_out (equal_places (family_in self.entry) (place_or self.entry.count chosen)) }

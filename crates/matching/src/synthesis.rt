@@ -44,8 +44,8 @@ pub struct Varies {
     pub italic: bool,
 }
 
-// Settings in three slots, those past the length blank; emboldening; skew in degrees. The slots are fixed: there is no heap, and the
-// record of an offer has three.
+// Settings in three slots, those past the length blank; emboldening; skew in degrees. The slots are fixed: the library allocates
+// nothing, and the record of an offer has three.
 #[derive(Clone, Copy)]
 pub struct Synthesis {
     pub settings: [Setting; 3],
@@ -139,7 +139,7 @@ fn oblique_lean(varies: Varies, reading: Reading, degrees: f32) -> Lean
     Lean::Skewed(single::truncate_to_i8(degrees))
 }
 
-// Style matters only for a normal face and another requested style.
+// Style matters only for a normal face and another requested style. The functions of this file are given what their definitions are.
 #[tactic(auto, unfolding(crate::specs::Synthesis::lean_of))]
 fn lean_of(varies: Varies, reading: Reading, own: FontStyle, wanted: FontStyle) -> Lean
     ensures { result ≡ lean_of (reading_number reading) varies own wanted }

@@ -27,7 +27,8 @@ fn print_case(rt: &impl Print, list: &[u8]) -> io::Result<usize>
     Ok(end)
 }
 
-// The position goes on by what each job takes. `match_cases` has the same loop: in a library it would have nothing to promise.
+// The position goes on by what each job takes. `match_cases` has the same loop and `main`: shared, they would take a closure that
+// prints, and be no shorter.
 fn print_list(rt: &impl Print, list: &[u8]) -> io::Result<()> {
     let mut at: usize = 0;
     while at < list.len() {

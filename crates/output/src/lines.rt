@@ -87,7 +87,7 @@ fn checked_under(job: &[u8], reading: u32) -> Result<(), Refused>
 }
 
 // Prints what section 7's program prints for a job under a reading, and where `indexed` the charmap index of each offer
-// after its skew. Answers whether the job was refused, and where.
+// after its skew, a word that section 7's program does not print. Answers whether the job was refused, and where.
 pub fn print_job(
     rt: &impl Print,
     job: &[u8],

@@ -75,6 +75,8 @@ fn unstated() -> FontStyle {
     FontStyle::Oblique(Angle::Unstated)
 }
 
+// Overrides of one attribute: each sets a field of its own.
+
 fn width(ratio: f32) -> FontInfoOverride {
     FontInfoOverride {
         width: Some(FontWidth::new(ratio)),
@@ -116,7 +118,8 @@ impl fmt::Display for Shown {
     }
 }
 
-// The line of a case.
+// The line of a case. `rt` and `name` go with each case, here and in the other test programs: where its line is printed, and what it
+// begins with.
 fn print_case(
     rt: &impl Print,
     kind: &str,

@@ -33,6 +33,7 @@ pub struct Font {
     pub axes: u8,
     // Bytes between OS/2 and cmap.
     pub gap: u32,
+    ghost gap_bound: { gap < 16777216 },
 }
 
 const OS2: u32 = 0x4F53_2F32;
@@ -41,10 +42,12 @@ const CMAP: u32 = 0x636D_6170;
 
 const FVAR: u32 = 0x6676_6172;
 
+pub const WGHT: u32 = 0x7767_6874;
+
 // The tag of an axis: wght, wdth, slnt, and others.
 fn tag(number: u8) -> u32 {
     match number {
-        0 => 0x7767_6874,
+        0 => WGHT,
         1 => 0x7764_7468,
         2 => 0x736C_6E74,
         _ => 0x4158_0000 + number as u32,
@@ -104,9 +107,7 @@ fn entry(
     out.word(length)
 }
 
-fn directory(out: &mut Writer, font: Font) -> Result<(), AllocError>
-    requires { font.gap < 16777216 }
-{
+fn directory(out: &mut Writer, font: Font) -> Result<(), AllocError> {
     out.word(0x0001_0000)?;
     out.half(3)?;
     out.filler(0, 6, 7)?;
@@ -116,9 +117,7 @@ fn directory(out: &mut Writer, font: Font) -> Result<(), AllocError>
 }
 
 // The length of the file, and the file.
-pub fn file(out: &mut Writer, font: Font) -> Result<(), AllocError>
-    requires { font.gap < 16777216 }
-{
+pub fn file(out: &mut Writer, font: Font) -> Result<(), AllocError> {
     out.word(168 + font.gap + 20 * font.axes as u32)?;
     directory(out, font)?;
     os2(out, font.weight)?;

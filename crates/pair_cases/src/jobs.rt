@@ -2,11 +2,11 @@
 ghost use Rattle.std.specs.Prelude.{◌≡◌, ◌<◌};
 
 use crate::fonts;
-use crate::fonts::{Font, MAC_ROMAN, Record, SYMBOL, UNICODE};
+use crate::fonts::{Font, MAC_ROMAN, Record, SYMBOL, UNICODE, WGHT};
 use crate::put::Writer;
 use std::alloc::{AllocError, Global};
 
-const ONE: u32 = 0x3F80_0000;
+pub const ONE: u32 = 0x3F80_0000;
 
 // Bits of the ratios 0.75, 1 and 1.25.
 const RATIOS: [u32; 3] = [0x3F40_0000, 0x3F80_0000, 0x3FA0_0000];
@@ -26,24 +26,18 @@ const WEIGHTS: [u32; 9] = [
 
 const RECORDS: [Record; 3] = [UNICODE, SYMBOL, MAC_ROMAN];
 
-const WGHT: u32 = 0x7767_6874;
-
 // A style is 10 degrees where it has an angle.
 fn style(out: &mut Writer, kind: u8) -> Result<(), AllocError> {
     out.byte(kind)?;
     out.word(if kind == 3 { 0x4120_0000 } else { 0 })
 }
 
-fn face(out: &mut Writer, is_held: bool, font: Font) -> Result<(), AllocError>
-    requires { font.gap < 16777216 }
-{
+fn face(out: &mut Writer, is_held: bool, font: Font) -> Result<(), AllocError> {
     out.byte(is_held as u8)?;
     fonts::file(out, font)
 }
 
-fn font_of(weight: u16, record: Record, axes: u8) -> Font
-    ensures { result.gap ≡ 0 }
-{
+fn font_of(weight: u16, record: Record, axes: u8) -> Font {
     Font {
         weight,
         record,

@@ -21,8 +21,6 @@ mod put;
 use print::Call;
 use std::io;
 
-const ONE: u32 = 0x3F80_0000;
-
 const SIXTEEN: u32 = 0x4180_0000;
 
 // Outputs of four lengths, then the offers of each request and what lies past them.
@@ -119,23 +117,23 @@ fn zeros(rt: &impl Print) -> io::Result<()> {
 }
 
 fn small(rt: &(impl Print + AllocGlobal)) -> io::Result<()> {
-    let job = jobs::small(rt.alloc(), 0, 3, ONE)?;
+    let job = jobs::small(rt.alloc(), 0, 3, jobs::ONE)?;
     lines(rt, "small", &job, &SMALL)?;
     calls(rt, &job, &SLANTED)
 }
 
 fn axes(rt: &(impl Print + AllocGlobal)) -> io::Result<()> {
-    let job = jobs::small(rt.alloc(), 16, 3, ONE)?;
+    let job = jobs::small(rt.alloc(), 16, 3, jobs::ONE)?;
     lines(rt, "16 axes", &job, &FIRST)?;
-    let job = jobs::small(rt.alloc(), 17, 3, ONE)?;
+    let job = jobs::small(rt.alloc(), 17, 3, jobs::ONE)?;
     lines(rt, "17 axes", &job, &FIRST)
 }
 
 fn places(rt: &(impl Print + AllocGlobal)) -> io::Result<()> {
-    let job = jobs::small(rt.alloc(), 0, 64, ONE)?;
+    let job = jobs::small(rt.alloc(), 0, 64, jobs::ONE)?;
     lines(rt, "64 places", &job, &FIRST)?;
     calls(rt, &job, &LAST)?;
-    let job = jobs::small(rt.alloc(), 0, 65, ONE)?;
+    let job = jobs::small(rt.alloc(), 0, 65, jobs::ONE)?;
     lines(rt, "65 places", &job, &FIRST)?;
     calls(rt, &job, &LAST)
 }

@@ -26,6 +26,7 @@ impl Writer {
         Ok(())
     }
 
+    // One line each, with the name of the size.
     pub fn half(&mut self, x: u16) -> Result<(), AllocError> {
         self.bytes.extend_from_slice(&x.to_be_bytes())
     }

@@ -6,7 +6,6 @@ use mathlib.Core.Bool.{Bool, true, false, cond}
 use mathlib.Core.List.{List, [], ◌∷◌}
 use native.Mathlib.Omega.{arith}
 use lib.Dec.{leb, ltb, eqb}
-use lib.IntN.{ℤ}
 use lib.ListN.{length, get_or}
 use borrow.Author.Tests.{lt-ltb, le-ltb, ltb-true, ltb-false, eq-eqb, ne_eqb}
 use Rattle.font.specs.declared.attributes.Angle.TheVariants.{Unstated, Degrees}
@@ -21,10 +20,9 @@ use Rattle.font.specs.Overrides.{with_override}
 use Rattle.font.proofs.Inside.{offset_inside}
 use Rattle.matching.specs.declared.order.Request as Matching
 use Rattle.matching.specs.Synthesis.{SynthesisAnswer}
-use Rattle.matching.specs.declared.synthesis.Setting.{Setting}
 use Rattle.matching.specs.declared.synthesis.Varies.{Varies}
 use Rattle.matching.specs.Matching.{request_of}
-use Rattle.matching.specs.Synthesis.{unvaried, put, added, synthesized, varies_of}
+use Rattle.matching.specs.Synthesis.{unvaried, synthesized, varies_of}
 use Rattle.matching.proofs.SettingValues.{setting_numbers}
 use Rattle.matching.specs.declared.rows.Row.{Row}
 use Rattle.matching.proofs.ThreeSettings.{three}
@@ -32,7 +30,7 @@ use Rattle.query.specs.declared.answer.Offer.{Offer}
 use Rattle.query.specs.Call.{CallAnswer}
 use Rattle.query.specs.Listed.{SearchResult}
 use Rattle.query.specs.Job.{Checked}
-use Rattle.query.specs.Positions.{WalkEnd}
+use Rattle.query.specs.Positions.{WalkEnd, AskedAt}
 use Rattle.query.specs.Sizes.{record_size, most_bytes}
 use Rattle.query.specs.Reader.{overlong, number, Got, refused, got}
 use Rattle.query.specs.Layout.{Bytes, angle_of, Every, Fits32, AngleFits, StyleFits, FaceFits, RequestFits, JobFits}
@@ -41,12 +39,13 @@ use Rattle.query.specs.Job.{Job, read_sections, read_job, answer, check_job, job
 use Rattle.query.specs.View.{View, overridden_by, after_overrides, no_entry, entry_of, stated_by, view_by, view_of}
 use Rattle.query.specs.Offers.{offer_of, members_of, offers, offers_of, face_of_offer, synthesis_of_offer, offer_at}
 use Rattle.query.specs.Values.{attributes_at, request_at}
-use Rattle.query.specs.CallTables.{OfferedFace, RowsShow, TablesOf, LoadAnswer}
+use Rattle.query.specs.CallTables.{OfferedFace, RequestIn, RowsShow, TablesOf, LoadAnswer}
 use Rattle.query.specs.Listed.{listed_at, Names, answer_at, found_nothing, Locates, SearchAnswer, LeadsTo}
 use Rattle.query.specs.Record.{Numbers, record_bytes}
 use Rattle.query.specs.Call.{Called, without_offer, with_synthesis, answered, request_of_job, view_answer, request_answer, job_answer, refuses_reading, answer_call, written, unwritten, offer_call, Calls}
 use Rattle.query.proofs.AcceptedJobs.{accepted_is_a_layout}
 use Rattle.query.proofs.Checks.{accepted}
+use Rattle.query.proofs.FamiliesAt.{request_in}
 use Rattle.query.proofs.RowFamilies.{rows_show}
 use Rattle.query.proofs.Picked.{pick_in, pick_past}
 use Rattle.query.proofs.SoundOffers.{offers_named}
@@ -113,21 +112,26 @@ module _ {reading : ℕ} (known_reading : is_reading reading ≡ true) {s : List
     the : (q : ℕ) × (read_job s ≡ got (job_of s) q)
     the = accepted s (sym refusal_is ∙ z)
 
-    pub unknown_request : w.requests ≤ k → (n : ℕ) → without_offer 28 ≡ answer_call s reading k n
-    unknown_request h n = sym (no_request s reading known_reading k n (job_of s) the.0 the.1 (omega (arith, loads.requests z)))
+    pub unknown_request : w.request ≡ None → (n : ℕ) → without_offer 28 ≡ answer_call s reading k n
+    unknown_request none n = sym (no_request s reading known_reading k n (job_of s) the.0 the.1 (rw none at (loads.request z)))
 
-    module _ (there : k < w.requests) where
-      known : k < length (job_of s).requests
-      known = omega (arith, loads.requests z)
+    module _ {p : ℕ} (found : w.request ≡ Some p) where
+      there : AskedAt s (job_of s).requests k p
+      there = rw found at (loads.request z)
 
-      pub request_inside : w.request < length s
-      request_inside = (loads.request (request_of_job (job_of s) k) z known).inside
+      request : (d : Request) → RequestIn s p (get_or (job_of s).requests k d)
+      request d =
+          let lies = there.lies d in
+          request_in s p (get_or (job_of s).requests k d) lies.end lies.read
 
-      pub request_answered : (n : ℕ) → answer_at reading s w.request n ≡ answer_call s reading k n
+      pub request_inside : p < length s
+      request_inside = (request (request_of_job (job_of s) k)).inside
+
+      pub request_answered : (n : ℕ) → answer_at reading s p n ≡ answer_call s reading k n
       unfolding answer_at request_of_job
       request_answered n =
-          ap (λ (r : Request). answered reading (view_of reading (job_of s)) r (offer_at (offers_of (view_of reading (job_of s)) r) n)) (loads.request _ z known).is
-          ∙ sym (a_request s reading known_reading k n (job_of s) the.0 the.1 known)
+          ap (λ (r : Request). answered reading (view_of reading (job_of s)) r (offer_at (offers_of (view_of reading (job_of s)) r) n)) (request _).is
+          ∙ sym (a_request s reading known_reading k n (job_of s) the.0 the.1 there.known)
 
 -- ---- the request that lies at a position
 

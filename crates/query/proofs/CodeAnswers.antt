@@ -13,7 +13,7 @@ use borrow.Author.Tests.{le-leb, lt-leb, eqb-true, ne_eqb}
 use Rattle.font.specs.declared.attributes.Attributes.{Attributes}
 use Rattle.font.specs.declared.charmap.CharmapIndex.{CharmapIndex}
 use Rattle.font.specs.declared.refusal.Refusal.{Refusal}
-use Rattle.font.specs.declared.refusal.Refusal.TheVariants.{WrongOutput, Overlong, PastEnd, OverLimit, NotHeld, BadDirectory, NoCharmap, ManyAxes, NoFace, Unknown, BadNumber, BytesLeft, NoRequest, FourthSetting, NoFont, DamagedTable}
+use Rattle.font.specs.declared.refusal.Refusal.TheVariants.{Overlong, Unknown}
 use Rattle.font.specs.declared.slant.Reading.{Reading}
 use Rattle.font.specs.declared.slant.Reading.TheVariants.{AsStated, Opposite}
 use Rattle.font.specs.Refusals.{number}

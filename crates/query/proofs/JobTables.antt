@@ -9,13 +9,8 @@ use lib.ListN.{length, get_or, get_or-map, get_or-eq_default}
 use borrow.Author.Tests.{leb-true}
 use Rattle.font.specs.declared.attributes.Attributes.{Attributes}
 use Rattle.font.specs.declared.font.FontInfo.{FontInfo}
-use Rattle.font.specs.declared.refusal.Refusal.{Refusal}
-use Rattle.font.specs.declared.refusal.Refusal.TheVariants.{WrongOutput, Overlong, PastEnd, OverLimit, NotHeld, BadDirectory, NoCharmap, ManyAxes, NoFace, Unknown, BadNumber, BytesLeft, NoRequest, FourthSetting, NoFont, DamagedTable}
-use Rattle.font.specs.Refusals as Refusals
 use Rattle.font.specs.Tables.{u16_at}
-use Rattle.font.specs.declared.slant.Reading.{Reading}
-use Rattle.font.specs.declared.slant.Reading.TheVariants.{AsStated, Opposite}
-use Rattle.font.specs.Slant.{is_reading, reading_number}
+use Rattle.font.specs.Slant.{is_reading}
 use Rattle.font.specs.Font.{font_refusal, refusal_under}
 use Rattle.font.proofs.FaceOf.{under_reading, attributes_of_face}
 use Rattle.matching.specs.Matching.{has_axis, slnt}
@@ -41,7 +36,7 @@ use Rattle.query.proofs.Checks.{accepted, job_read, sections_read}
 use Rattle.query.proofs.OverridesLeft.{counted_lies}
 use Rattle.query.proofs.OverriddenFaces.{after_axis, stated_axis}
 use Rattle.query.proofs.RowsAfter.{row_after}
-use Rattle.query.proofs.FamiliesAt.{family_in, unknown_family, request_in}
+use Rattle.query.proofs.FamiliesAt.{family_in, unknown_family}
 
 -- ---- the count of a section and its entries
 
@@ -238,10 +233,7 @@ module _ {s : List ℕ} {w : WalkEnd} {before families : List ℕ} {asked : ℕ}
               shown = λ y. row_shows;
               uncounted = λ y k l. (lies_there k l).low;
               overrides = λ y. (walks.begins z).override;
-              requests = λ y. (walks.begins z).requests;
-              request = λ d y l.
-                  let lies = (walks.begins z).request d l in
-                  request_in s w.request (get_or (job_of s).requests asked d) lies.end lies.read;
+              request = λ y. (walks.begins z).request;
             }
 
 -- ---- a refused job
@@ -259,6 +251,5 @@ loads_nothing walks h =
       shown = λ y. absurd (h y);
       uncounted = λ y. absurd (h y);
       overrides = λ y. absurd (h y);
-      requests = λ y. absurd (h y);
-      request = λ d y. absurd (h y);
+      request = λ y. absurd (h y);
     }

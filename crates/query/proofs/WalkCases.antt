@@ -1,4 +1,5 @@
 -- The walk through a job: what it answers, and where it found the entries of an accepted job, from what its steps do.
+use Rattle.std.specs.Prelude.{Option, None, Some}
 use Prim.Native.Nat.{ℕ, ◌+◌, ◌-◌, ◌≤◌, ◌<◌}
 use mathlib.Core.Path.{◌≡◌, refl, sym, ap, ◌∙◌}
 use mathlib.Core.List.{List}
@@ -14,14 +15,14 @@ use Rattle.query.specs.Reader.{Got, got, Reader, onward, ended, ◌>>=◌}
 use Rattle.query.specs.Fields.{counted}
 use Rattle.query.specs.Entries.{Request, read_face, read_override, read_family, read_request}
 use Rattle.query.specs.Job.{Job, at_end, read_sections, answer, check_job, job_of}
-use Rattle.query.specs.Positions.{NotedSection, KeptFrom, checked_end, Requested, Begins, SectionsAnswer, WalkAnswer}
+use Rattle.query.specs.Positions.{NotedSection, KeptFrom, checked_end, Asked, Requested, Begins, SectionsAnswer, WalkAnswer}
 use Rattle.query.proofs.Ends.{stops, goes, got_there, not_got}
 use Rattle.query.proofs.Leaves.{counted_length}
 use Rattle.query.proofs.Checks.{bytes_left_lem, no_bytes_left, over, short, answers_none, answers_refusal, answered, accepted, job_read, Sections, sections_read}
 
 -- how a walk ends at a refusal
 abbrev pub refused_walk : At → WalkEnd
-refused_walk a = record { refusal = a.refusal; position = a.at; overrides = 0; requests = 0; request = 0 }
+refused_walk a = record { refusal = a.refusal; position = a.at; overrides = 0; request = None }
 
 -- ---- the requests
 
@@ -31,8 +32,7 @@ module _ (s : List ℕ) (at asked : ℕ) where
   refused_requests h end =
       record {
         end = λ job. answers_refusal _ (end job) h;
-        count = λ rs q z. absurd (h z);
-        place = λ rs q d z. absurd (h z);
+        request = λ rs q z. absurd (h z);
       }
 
   module _ {a : At} (read : a ≡ ended (counted most_requests read_request s at)) where
@@ -47,17 +47,29 @@ module _ (s : List ℕ) (at asked : ℕ) where
         (λ job. goes (counted most_requests read_request) (λ rs. at_end (job rs)) s at read z (λ rs g. bytes_left_lem (job rs) s a.at l))
 
     -- it ends the job
-    pub all_requests : {before after : List ℕ} {n m : ℕ} → a.refusal ≡ 0 → length s ≤ a.at → n ≡ u16_at s at → NotedSection Requests s at asked before after
-        → 0 < length after → m ≡ get_or after 0 0 → Requested s at asked (record { refusal = 0; position = 0; overrides = 0; requests = n; request = m })
-    all_requests {before} {after} z l is notes room there =
-        record {
-          end = λ job.
-              answers_none _ (goes (counted most_requests read_request) (λ rs. at_end (job rs)) s at read z (λ rs g. no_bytes_left (job rs) s a.at l)) refl;
-          count = λ rs q y e. is ∙ sym (counted_length most_requests read_request s at rs q e);
-          place = λ rs q d y e k.
-              let here : asked + 0 ≡ asked = omega arith in
-              rw there (rw here at ((notes.noted rs q e).lies 0 d room (omega arith)));
-        }
+    module _ (z : a.refusal ≡ 0) (l : length s ≤ a.at) where
+      all_requests : {p : Option ℕ} → ((rs : List Request) (q : ℕ) → counted most_requests read_request s at ≡ got rs q → Asked s rs asked p)
+          → Requested s at asked (record { refusal = 0; position = 0; overrides = 0; request = p })
+      all_requests found =
+          record {
+            end = λ job.
+                answers_none _ (goes (counted most_requests read_request) (λ rs. at_end (job rs)) s at read z (λ rs g. no_bytes_left (job rs) s a.at l)) refl;
+            request = λ rs q y e. found rs q e;
+          }
+
+      -- without the asked one
+      pub not_asked : u16_at s at ≤ asked → Requested s at asked (record { refusal = 0; position = 0; overrides = 0; request = None })
+      not_asked few = all_requests (λ rs q e. omega (arith, counted_length most_requests read_request s at rs q e))
+
+      -- with it
+      pub asked_there : {before after : List ℕ} {m : ℕ} → asked < u16_at s at → NotedSection Requests s at asked before after → 0 < length after
+          → m ≡ get_or after 0 0 → Requested s at asked (record { refusal = 0; position = 0; overrides = 0; request = Some m })
+      asked_there {before} {after} more notes room there =
+          all_requests
+          (λ rs q e.
+          let known : asked < length rs = omega (arith, counted_length most_requests read_request s at rs q e) in
+          let here : asked + 0 ≡ asked = omega arith in
+          record { known = known; lies = λ d. rw there (rw here at ((notes.noted rs q e).lies 0 d room (omega arith))) })
 
 -- ---- the four sections
 
@@ -147,7 +159,7 @@ module _ (s : List ℕ) {a : At} (faces : a ≡ ended (counted most_faces read_f
             }
 
         pub walked : {ms₀ ms : List ℕ} → NotedSection (Families n) s b.at 0 ms₀ ms
-            → SectionsAnswer s (record { refusal = w.refusal; position = w.position; overrides = a.at; requests = w.requests; request = w.request }) ms₀ ms asked
+            → SectionsAnswer s (record { refusal = w.refusal; position = w.position; overrides = a.at; request = w.request }) ms₀ ms asked
         walked {ms₀} {ms} noted-families =
             record {
               end = sections_end;
@@ -164,15 +176,14 @@ module _ (s : List ℕ) {a : At} (faces : a ≡ ended (counted most_faces read_f
                 rw all at ((here j q p).kept j.families p.parts.fourth p.parts.families)
 
             begins : (j : Job) (q : ℕ) → read_sections s 0 ≡ got j q → Places q j
-                → Begins s j (record { refusal = w.refusal; position = w.position; overrides = a.at; requests = w.requests; request = w.request }) ms asked
+                → Begins s j (record { refusal = w.refusal; position = w.position; overrides = a.at; request = w.request }) ms asked
             begins j q is p =
                 let zero : w.refusal ≡ 0 = answered sections_end is in
                 let read = rw (sym p.fourth) at p.parts.requests in
                 record {
                   override = record { end = p.parts.third; read = rw p.second p.parts.overrides };
                   family = (here j q p).noted j.families p.parts.fourth p.parts.families;
-                  requests = requests.count j.requests q zero read;
-                  request = λ r l. requests.place j.requests q r zero read l;
+                  request = requests.request j.requests q zero read;
                 }
 
 -- ---- the answer

@@ -15,7 +15,7 @@ use Rattle.font.specs.declared.overrides.FontInfoOverride.{FontInfoOverride}
 use Rattle.matching.specs.Matching.{style_number, has_axis, slnt}
 use Rattle.matching.specs.declared.rows.Row.{Row}
 use Rattle.matching.specs.Rows.{no_row, place_row, row_of}
-use Rattle.query.specs.Positions.{WalkEnd}
+use Rattle.query.specs.Positions.{WalkEnd, Asked}
 use Rattle.query.specs.Sizes.{most_bytes, most_overrides, most_families, most_places}
 use Rattle.query.specs.Fields.{NumberedFont, counted}
 use Rattle.query.specs.Reader.{many}
@@ -193,5 +193,4 @@ pub record LoadAnswer (reading : ℕ) (s : List ℕ) (w : WalkEnd) (rows : List 
   pub shown : w.refusal ≡ 0 → RowsShow reading s rows
   pub uncounted : w.refusal ≡ 0 → Uncounted families
   pub overrides : w.refusal ≡ 0 → LiesAt (counted most_overrides (read_override (length (job_of s).faces))) s w.overrides (job_of s).overrides
-  pub requests : w.refusal ≡ 0 → w.requests ≡ length (job_of s).requests
-  pub request : (d : Request) → w.refusal ≡ 0 → asked < length (job_of s).requests → RequestIn s w.request (get_or (job_of s).requests asked d)
+  pub request : w.refusal ≡ 0 → Asked s (job_of s).requests asked w.request

@@ -1,5 +1,6 @@
 -- Where the entries of an accepted job begin, as the steps of a call hand it on. No promise to a user cites this.
-use Rattle.std.specs.Prelude.{ℕ, ◌+◌, ◌-◌, ◌≤◌, ◌<◌, ◌≡◌, List, length, get_or, Result, Ok, Err}
+use Rattle.std.specs.Prelude.{ℕ, ◌+◌, ◌-◌, ◌≤◌, ◌<◌, ◌≡◌, List, length, get_or, Option, None, Result, Ok, Err}
+use Rattle.std.specs.Option.{MatchOption}
 use Rattle.query.specs.declared.job.Refused.{Refused}
 use Rattle.query.specs.declared.job.Walked.{Walked}
 use Rattle.font.specs.Refusals as Refusals
@@ -56,19 +57,32 @@ pub record SectionEnds (section : Section) (s : List ℕ) (at first : ℕ) (resu
 
 -- ---- the walk through a job
 
--- how a walk ended: a refusal's number and its field's position; and of an accepted job where its overrides begin, how many requests it has, and where the
--- asked one begins
+-- how a walk ended: a refusal's number and its field's position; and of an accepted job where its overrides begin, and where the asked request begins, if it
+-- has that
 pub record WalkEnd : Type 0 where
   pub refusal : ℕ
   pub position : ℕ
   pub overrides : ℕ
-  pub requests : ℕ
-  pub request : ℕ
+  pub request : Option ℕ
 
 -- so of the code's answer
 unfoldable pub walk_in : Result Walked Refused → WalkEnd
-walk_in (Ok w) = record { refusal = 0; position = 0; overrides = w.overrides; requests = w.requests; request = w.request }
-walk_in (Err why) = record { refusal = Refusals.number why.refusal; position = why.position; overrides = 0; requests = 0; request = 0 }
+walk_in (Ok w) = record { refusal = 0; position = 0; overrides = w.overrides; request = w.request }
+walk_in (Err why) = record { refusal = Refusals.number why.refusal; position = why.position; overrides = 0; request = None }
+
+-- and of the answer of the requests, which do not know where the overrides begin
+unfoldable pub asked_in : Result (Option ℕ) Refused → WalkEnd
+asked_in (Ok p) = record { refusal = 0; position = 0; overrides = 0; request = p }
+asked_in (Err why) = record { refusal = Refusals.number why.refusal; position = why.position; overrides = 0; request = None }
+
+-- the request of a number lies at a position
+pub record AskedAt (s : List ℕ) (rs : List Request) (asked p : ℕ) : Type 0 where
+  pub known : asked < length rs
+  pub lies : (d : Request) → LiesAt read_request s p (get_or rs asked d)
+
+-- or there are not so many
+abbrev pub Asked : List ℕ → List Request → ℕ → Option ℕ → Type 0
+Asked s rs asked found = MatchOption found (length rs ≤ asked) (AskedAt s rs asked)
 
 -- how a walk ended, as the check call says it
 abbrev pub checked_end : WalkEnd → Checked
@@ -77,16 +91,13 @@ checked_end w = record { refusal = w.refusal; position = w.position }
 -- the requests, which end the job, whatever is made of them
 pub record Requested (s : List ℕ) (at asked : ℕ) (w : WalkEnd) : Type 0 where
   pub end : (job : List Request → Job) → checked_end w ≡ answer ((counted most_requests read_request >>= λ rs. at_end (job rs)) s at)
-  pub count : (rs : List Request) (q : ℕ) → w.refusal ≡ 0 → counted most_requests read_request s at ≡ got rs q → w.requests ≡ length rs
-  pub place : (rs : List Request) (q : ℕ) (d : Request) → w.refusal ≡ 0 → counted most_requests read_request s at ≡ got rs q → asked < length rs
-      → LiesAt read_request s w.request (get_or rs asked d)
+  pub request : (rs : List Request) (q : ℕ) → w.refusal ≡ 0 → counted most_requests read_request s at ≡ got rs q → Asked s rs asked w.request
 
--- where the section of overrides and the families of a job begin, how many requests it has, and where the asked one begins
+-- where the section of overrides and the families of a job begin, and the asked request
 pub record Begins (s : List ℕ) (job : Job) (w : WalkEnd) (families : List ℕ) (asked : ℕ) : Type 0 where
   pub override : LiesAt (counted most_overrides (read_override (length job.faces))) s w.overrides job.overrides
   pub family : Noted (read_family (length job.faces)) s job.families 0 families
-  pub requests : w.requests ≡ length job.requests
-  pub request : (d : Request) → asked < length job.requests → LiesAt read_request s w.request (get_or job.requests asked d)
+  pub request : Asked s job.requests asked w.request
 
 -- the four sections
 pub record SectionsAnswer (s : List ℕ) (w : WalkEnd) (before families : List ℕ) (asked : ℕ) : Type 0 where

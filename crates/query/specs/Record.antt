@@ -1,8 +1,9 @@
 -- Section 6: the 40 bytes of an offer. "Job and output are big-endian".
-use Rattle.std.specs.Prelude.{ℕ, ◌-◌, ◌<◌, ◌≡◌, Bool, true, false, cond, List, [], ◌∷◌, ◌++◌, ltb, ℤ, pos, negsuc, Float, get_or}
+use Rattle.std.specs.Prelude.{ℕ, ◌-◌, ◌<◌, ◌≡◌, Bool, true, false, cond, List, [], ◌∷◌, ◌++◌, ltb, ℤ, pos, negsuc, Float, get_or, Option, None, Some}
 use Rattle.std.specs.Float.{nan, binary32}
 use Rattle.std.specs.Float.Ieee.{to_bits, is_nan}
 use Rattle.font.specs.declared.charmap.CharmapIndex.{CharmapIndex}
+use Rattle.matching.specs.declared.synthesis.Setting.{Setting}
 use Rattle.matching.specs.Synthesis.{SynthesisAnswer}
 use Rattle.query.specs.declared.answer.Offer.{Offer}
 use Rattle.query.specs.Layout.{bytes16, bytes32}
@@ -28,6 +29,11 @@ slot_bytes used tag value = bytes32 (cond used tag 0) ++ bytes32 (cond used (to_
 
 unfoldable pub slot_at : ℕ → List ℕ → List Float → ℕ → List ℕ
 slot_at count tags values i = slot_bytes (ltb i count) (get_or tags i 0) (get_or values i nan)
+
+-- so of a setting; of none, the slot is not used
+unfoldable pub setting_bytes : Option Setting → List ℕ
+setting_bytes None = slot_bytes false 0 nan
+setting_bytes (Some s) = slot_bytes true s.tag s.value
 
 -- "cmap offset (32-bit), symbol, Mac Roman, two zero bytes"
 unfoldable pub index_bytes : CharmapIndex → List ℕ

@@ -10,7 +10,6 @@ ghost use Rattle.query.specs.Call.{with_synthesis, answer_in, map_ok, answer_cal
 ghost use Rattle.query.specs.Demands.{Demands};
 
 use crate::answer::{Answer, Offer};
-use crate::job::Walked;
 use crate::offers::{Found, Search};
 use crate::{faces, loading, record, sizes, values};
 use font::attributes::Attributes;
@@ -39,19 +38,19 @@ fn with_synthesis(
     })
 }
 
-// The search in the request that an accepted job was loaded for, under the reading that its rows are of.
+// The search in the request of an accepted job at a position, under the reading that its rows are of.
 fn search_request(
     job: &[u8],
-    walked: Walked,
+    overrides: usize,
+    at: usize,
     rows: &[Row],
     families: &mut [u32; 64],
     n: usize,
 ) -> Option<Found>
-    requires tables_of { TablesOf job.now rows.now families.old × Uncounted families.old × SectionIn job.now walked.overrides }
-    requires request_in_bounds { walked.request < length job.now }
-    ensures { LeadsByRows job.now rows.now walked.request n (search_in (Ok result)) }
+    requires tables_of { TablesOf job.now rows.now families.old × Uncounted families.old × SectionIn job.now overrides }
+    requires request_in_bounds { at < length job.now }
+    ensures { LeadsByRows job.now rows.now at n (search_in (Ok result)) }
 {
-    let at = walked.request;
     let wanted = values::attributes_at(job, at + sizes::REQUEST_ATTRIBUTES);
     let request = request_of(wanted, true);
     let mut search = Search {
@@ -61,7 +60,7 @@ fn search_request(
         request,
     };
     let offer = search.request_offer(at, n)?;
-    Some(search.place_of_face(walked.overrides, offer, wanted))
+    Some(search.place_of_face(overrides, offer, wanted))
 }
 
 // The search for a request and an offer number, with room for the rows of the job's faces.
@@ -78,13 +77,17 @@ fn search_with(
     let mut families = [loading::NOWHERE; 64];
     match loading::load(job, reading, &mut *rows, &mut families, request as usize) {
         Err(refused) => Err(refused.refusal),
-        Ok(walked) => {
-            if (request as usize) < walked.requests {
-                Ok(search_request(job, walked, rows, &mut families, number as usize))
-            } else {
-                Err(Refusal::NoRequest)
-            }
-        }
+        Ok(walked) => match walked.request {
+            None => Err(Refusal::NoRequest),
+            Some(at) => Ok(search_request(
+                job,
+                walked.overrides,
+                at,
+                rows,
+                &mut families,
+                number as usize,
+            )),
+        },
     }
 }
 

@@ -15,7 +15,8 @@ use font::overrides::FontInfoOverride;
 use font::slant::Reading;
 use font::{overrides, tables};
 
-// The font file of the face whose entry lies at a position.
+// The font file of the face whose entry lies at a position. A position is a number, as in the layout: that it lies below a power of
+// two is asked where its sum with a length is made, and the powers differ as the sums do.
 pub(crate) fn file_at(job: &[u8], at: usize) -> &[u8]
     requires { at < 2 ^ 63 }
     ensures { result.now ≡ file_at job.now at }
@@ -74,7 +75,7 @@ fn with_pairs(job: &[u8], at: usize, count: usize, font: FontInfo) -> FontInfo
     set
 }
 
-// A face after the override at a position.
+// A face after the override at a position. Of its axes as `with_pairs` has it.
 fn override_face(job: &[u8], at: usize, font: FontInfo) -> FontInfo
     requires { (at < 2 ^ 62) × (font.axis_count ≤ 16) }
     ensures { result ≡ overridden_by (override_at job.now at) font }

@@ -19,7 +19,7 @@ fn is_held(face: Row) -> bool
     face.marks / 2 % 2 == 1
 }
 
-// Whether a face equals the chosen one, if a face is chosen.
+// Whether a face equals the chosen one, if a face is chosen. It goes with its family, as in the definitions.
 fn equals_chosen(family: FamilyRows, chosen: Option<usize>, face: Row) -> bool
     ensures { result ≡ equals_chosen family.entry.rows.now family.entry.members.now family.entry.count (place_or family.entry.count chosen) face }
 {
@@ -30,7 +30,8 @@ fn equals_chosen(family: FamilyRows, chosen: Option<usize>, face: Row) -> bool
     }
 }
 
-// The n-th of the held faces that equal the chosen one, in place order. Else how far past them n lies.
+// The n-th of the held faces that equal the chosen one, in place order. Else how far past them n lies: what is left of n is the
+// answer too, so it is counted down by hand.
 fn held_equal(family: FamilyRows, chosen: Option<usize>, n: usize) -> Result<u16, usize>
     ensures { result ≡ pick Ok Err (keep (held_row family.entry.rows.now family.entry.members.now) (equal_places (family_of_rows family.entry.rows.now family.entry.members.now family.entry.count) (place_or family.entry.count chosen))) n }
 {

@@ -43,7 +43,8 @@ pub(crate) fn bytes(job: &[u8], at: usize, size: usize) -> Result<usize, Refused
     }
 }
 
-// A field of `size` bytes that is refused by `refusal` unless `ok`. The fields of the format below are one call each.
+// A field of `size` bytes that is refused by `refusal` unless `ok`. The fields of the format below are one call each, under their
+// names: a function for several would be told size and test again by each caller.
 fn tested(job: &[u8], at: usize, size: usize, ok: bool, refusal: Refusal) -> Result<usize, Refused>
     ensures { end_in result ≡ field_end job.now at size ok (number refusal) }
 {
@@ -73,7 +74,7 @@ pub(crate) fn halves(job: &[u8], at: usize, count: usize) -> Result<usize, Refus
     Ok(at + 2 * count)
 }
 
-// Whether the bits are those of a number: no infinity and no NaN.
+// Whether the bits are those of a number: no infinity and no NaN. By the bits, since `from_bits` asks that they are no NaN's.
 pub(crate) fn finite_bits(bits: u32) -> bool
     ensures { result ≡ finite (of_bits binary32 bits) }
 {

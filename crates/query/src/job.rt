@@ -3,7 +3,7 @@ ghost use Rattle.std.specs.Prelude.{◌≡◌, ◌≤◌, length};
 ghost use Rattle.query.specs.Sizes.{most_bytes};
 ghost use Rattle.query.specs.Job.{check_job, checked_in};
 ghost use Rattle.query.specs.Demands.{Demands};
-ghost use Rattle.query.specs.Positions.{walk_in, Requested, SectionsAnswer, WalkAnswer};
+ghost use Rattle.query.specs.Positions.{asked_in, walk_in, Requested, SectionsAnswer, WalkAnswer};
 
 use crate::fields::wide;
 use crate::sections::read_section;
@@ -28,18 +28,17 @@ impl fmt::Display for Refused {
 
 impl Error for Refused {}
 
-// Of an accepted job where its overrides begin, how many requests it has, and where the asked one begins.
+// Of an accepted job where its overrides begin, and where the asked request begins, if it has that.
 #[derive(Clone, Copy)]
 pub(crate) struct Walked {
     pub overrides: usize,
-    pub requests: usize,
-    pub request: usize,
+    pub request: Option<usize>,
 }
 
-// The requests, and nothing after them.
-fn requests(job: &[u8], at: usize, asked: usize) -> Result<Walked, Refused>
+// The requests, and nothing after them. Answers where the asked one begins, if there is one.
+fn requests(job: &[u8], at: usize, asked: usize) -> Result<Option<usize>, Refused>
     requires { length job.now ≤ most_bytes }
-    ensures { Requested job.now at asked (walk_in result) }
+    ensures { Requested job.now at asked (asked_in result) }
 {
     let mut place = [0u32; 1];
     let request = |at| entries::request(job, at);
@@ -50,11 +49,11 @@ fn requests(job: &[u8], at: usize, asked: usize) -> Result<Walked, Refused>
             position,
         });
     }
-    Ok(Walked {
-        overrides: 0,
-        requests: tables::u16_at(job, at) as usize,
-        request: wide(place[0]),
-    })
+    if asked < tables::u16_at(job, at) as usize {
+        Ok(Some(wide(place[0])))
+    } else {
+        Ok(None)
+    }
 }
 
 // The four sections, and nothing after them. The table gets the positions of the families, as far as it has room.
@@ -76,8 +75,8 @@ fn whole(job: &[u8], families: &mut [u32], asked: usize) -> Result<Walked, Refus
     )?;
     let family = |at| entries::family(job, at, faces);
     let third = read_section(job, second, sizes::MOST_FAMILIES, family, 0, families)?;
-    let last = requests(job, third, asked)?;
-    Ok(Walked { overrides, ..last })
+    let request = requests(job, third, asked)?;
+    Ok(Walked { overrides, request })
 }
 
 // The first refusal of a job, reading left to right; or where an accepted job has its entries.

@@ -19,13 +19,15 @@ use matching::matching::style_number;
 use matching::rows::Row;
 
 // A family's number: where its entry begins and, once its offers are counted, this times one more than there are.
-// Packed, as the table of families and that of rows are on an offer call's stack, which is small.
+// Packed: the table lies on an offer call's stack, and with two numbers a family 256 bytes more would leave little room there.
 pub(crate) const COUNT_STEP: u32 = 0x200_0000;
 
-// Past the end of every job: where the families begin that a job does not have.
+// Past the end of every job: where the families begin that a job does not have. A place past the end has no family, so it needs no
+// test of its own, and 64 options would take twice the room.
 pub(crate) const NOWHERE: u32 = COUNT_STEP - 1;
 
-// The row of the face whose entry lies at a position, before its overrides, by its file and font number.
+// The row of the face whose entry lies at a position, before its overrides, by its file and font number. Positions are bounded as in
+// `faces`, and that the file is not refused is asked as by font's `read_font`.
 fn row_at(job: &[u8], reading: Reading, at: usize, file: &[u8], number: u16) -> Row
     requires at_bound { (at < 2 ^ 30) × (file.now ≡ file_at job.now at) × (number ≡ number_behind job.now (file_end job.now at) file.now) }
     requires number_value { refusal_under (reading_number reading) file.now number ≡ 0 }

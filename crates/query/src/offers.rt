@@ -61,7 +61,7 @@ impl<'a> Search<'a> {
         offer
     }
 
-    // The n-th offer of a list of family numbers, which begins with a byte count.
+    // The n-th offer of a list of family numbers, which begins with a byte count. Positions are bounded as in `faces`.
     fn list_offer(&mut self, at: usize, n: usize) -> Result<Offer, usize>
         requires { at < 2 ^ 32 }
         ensures value { result ≡ pick Ok Err (in_turn (row_offers self.old.job.now self.old.rows.now self.old.request) (list_at self.old.job.now at)) n }

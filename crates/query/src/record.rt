@@ -1,9 +1,10 @@
 // The 40 bytes of an offer.
-ghost use Rattle.std.specs.Prelude.{◌≡◌, true, false, ◌++◌, ◌+◌, ◌^◌, ◌≤◌, ◌<◌, length, take};
+ghost use Rattle.std.specs.Prelude.{◌≡◌, false, ◌++◌, ◌+◌, ◌^◌, ◌≤◌, ◌<◌, length, take};
+ghost use Rattle.std.specs.Option.{IfSome};
 ghost use Rattle.std.specs.Float.Ieee.{is_nan};
 ghost use Rattle.matching.specs.Synthesis.{laid_out};
 ghost use Rattle.query.specs.Sizes.{record_size};
-ghost use Rattle.query.specs.Record.{head_bytes, slot_bytes, index_bytes, Numbers, record_bytes};
+ghost use Rattle.query.specs.Record.{head_bytes, setting_bytes, index_bytes, Numbers, record_bytes};
 
 use crate::answer::Offer;
 use font::charmap::CharmapIndex;
@@ -17,7 +18,8 @@ fn put<const N: usize>(out: &mut [u8], at: usize, bytes: [u8; N])
     out[at..at + N].copy_from_slice(&bytes);
 }
 
-// The offer's family and place, emboldening, skew, and how many settings follow.
+// The offer's family and place, emboldening, skew, and how many settings follow. The record is a slice of the caller's output, so its
+// length is asked here, at its end and of the whole.
 fn put_head(out: &mut [u8], offer: Offer, embolden: bool, skew: i8, count: u8)
     requires { length out.old ≡ record_size }
     ensures { take 8 out.new ≡ head_bytes offer embolden skew count }
@@ -28,16 +30,17 @@ fn put_head(out: &mut [u8], offer: Offer, embolden: bool, skew: i8, count: u8)
 }
 
 // A setting's tag and value, or zeros.
-fn put_slot(out: &mut [u8], at: usize, used: bool, setting: Setting)
-    requires { (at + 8 ≤ length out.old) × (used ≡ true → is_nan setting.value ≡ false) }
-    ensures { take (at + 8) out.new ≡ take at out.old ++ slot_bytes used setting.tag setting.value }
+fn put_slot(out: &mut [u8], at: usize, setting: Option<Setting>)
+    requires { (at + 8 ≤ length out.old) × IfSome setting (λ s. is_nan s.value ≡ false) }
+    ensures { take (at + 8) out.new ≡ take at out.old ++ setting_bytes setting }
 {
-    if used {
-        let value = setting.value.to_bits();
-        put(&mut *out, at, setting.tag.to_be_bytes());
-        put(out, at + 4, value.to_be_bytes());
-    } else {
-        put(out, at, [0; 8]);
+    match setting {
+        None => put(out, at, [0; 8]),
+        Some(setting) => {
+            let value = setting.value.to_bits();
+            put(&mut *out, at, setting.tag.to_be_bytes());
+            put(out, at + 4, value.to_be_bytes());
+        }
     }
 }
 
@@ -60,8 +63,8 @@ pub(crate) fn write_record(out: &mut [u8], offer: Offer, synthesis: Synthesis, i
 {
     let count = synthesis.len;
     put_head(&mut *out, offer, synthesis.embolden, synthesis.skew, count);
-    put_slot(&mut *out, 8, 0 < count, synthesis.settings[0]);
-    put_slot(&mut *out, 16, 1 < count, synthesis.settings[1]);
-    put_slot(&mut *out, 24, 2 < count, synthesis.settings[2]);
+    put_slot(&mut *out, 8, (0 < count).then_some(synthesis.settings[0]));
+    put_slot(&mut *out, 16, (1 < count).then_some(synthesis.settings[1]));
+    put_slot(&mut *out, 24, (2 < count).then_some(synthesis.settings[2]));
     put_index(out, index);
 }

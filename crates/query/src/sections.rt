@@ -39,7 +39,8 @@ fn entry_run<F: Fn(usize) -> Result<usize, Refused>>(
     Ok(place)
 }
 
-// A section at a position: the refusal, or the next position, with the positions of its entries as `entry_run` has them.
+// A section at a position: the refusal, or the next position, with the positions of its entries as `entry_run` has them. Where none
+// is wanted the table is empty: one loop serves all four sections.
 pub(crate) fn read_section<F: Fn(usize) -> Result<usize, Refused>>(
     job: &[u8],
     at: usize,

@@ -19,7 +19,7 @@ pub(crate) fn number_at(job: &[u8], at: usize) -> f32
     }
 }
 
-// Kind and angle.
+// Kind and angle. Positions are bounded as in `faces`.
 #[tactic(auto, unfolding(crate::specs::Values::style_at, crate::specs::Entries::style_of_kind))]
 pub(crate) fn style_at(job: &[u8], at: usize) -> FontStyle
     requires { at < 2 ^ 63 }

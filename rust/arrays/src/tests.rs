@@ -71,6 +71,15 @@ impl Planted {
         self.change(module, function, at, &format!("{at}\n    {new}"))
     }
 
+    /// A text behind the loading of a job.
+    fn loaded(self, new: &str) -> Self {
+        let (module, function) = ("query/call", "search_with");
+        let arm = "match walked.request {";
+        let end = "number as usize,\n            )),\n        }";
+        self.change(module, function, arm, &format!("{{ {new}\n    {arm}"))
+            .change(module, function, end, &format!("{end}\n    }}"))
+    }
+
     /// In place of a text that stands once in a module, another one.
     fn replace(mut self, module: &str, old: &str, new: &str) -> Self {
         let text = self.text(module);

@@ -4,7 +4,6 @@ use super::{Planted, real};
 
 const STAGES: &str = "matching/stages";
 const FAMILIES: &str = "query/families";
-const CALL: &str = "query/call";
 
 /// In the choice, between the style and the weight.
 fn in_the_choice(new: &str, words: &str) {
@@ -132,7 +131,7 @@ fn a_loaded_family_that_a_method_writes() {
             "row",
         ),
     ] {
-        let planted = real().before(CALL, "search_with", "if (request as usize)", new);
+        let planted = real().loaded(new);
         planted.finds(
             "query::call::search_with",
             &format!("`{name}` writes the family `rows`"),

@@ -14,7 +14,6 @@ const CHOSEN: &str = "let chosen = ";
 
 /// Where the rows of a job are loaded, and what comes behind.
 const LOAD: &str = "match loading::load(";
-const LOADED: &str = "if (request as usize)";
 
 /// What is between the style and the weight.
 const STYLE: &str = "let style = ";
@@ -247,7 +246,7 @@ fn a_copy_of_the_family() {
     let planted = real().behind(MATCHING, "match_font", ROWS, "let copy = fonts;");
     planted.finds("matching::matching::match_font", "`copy`: [FontInfo; 64]");
     let copy = "let copy = [Row::BLANK; 64];";
-    let planted = real().before(CALL, "search_with", LOADED, copy);
+    let planted = real().loaded(copy);
     planted.finds("query::call::search_with", "`copy`: [Row; 64]");
 }
 
@@ -311,21 +310,17 @@ fn an_array_without_a_name() {
 
 #[test]
 fn a_loaded_family_that_is_written() {
-    let planted = real().before(CALL, "search_with", LOADED, "rows[0] = Row::BLANK;");
+    let planted = real().loaded("rows[0] = Row::BLANK;");
     planted.finds(
         "query::call::search_with",
         "`rows` writes the family `rows`",
     );
     let item = "\nfn spoil(table: &mut [Row]) {\n    table[0].marks = 0;\n}\n";
-    let far = real()
-        .before(CALL, "search_with", LOADED, "spoil(&mut *rows);")
-        .with(CALL, item);
+    let far = real().loaded("spoil(&mut *rows);").with(CALL, item);
     far.finds("query::call::spoil", "`table` writes the family `rows`");
     let item = "\nfn relay<'a>(table: &'a mut [Row]) -> &'a mut [Row] {\n    table\n}\n";
     let again = "let again = relay(&mut *rows);\n    again[0].marks = 0;";
-    let relayed = real()
-        .before(CALL, "search_with", LOADED, again)
-        .with(CALL, item);
+    let relayed = real().loaded(again).with(CALL, item);
     relayed.finds(
         "query::call::search_with",
         "`again` writes the family `rows`",
@@ -377,7 +372,7 @@ fn a_function_with_an_array_where_another_is_alive() {
     let alone = real().before(CALL, "search_with", at, "let first = scratch();");
     let alone = alone.with(CALL, item);
     alone.finds_nothing();
-    let both = alone.before(CALL, "search_with", LOADED, "let second = scratch();");
+    let both = alone.loaded("let second = scratch();");
     both.finds("query::call::scratch", "`kept`: [u8; 64]");
 }
 

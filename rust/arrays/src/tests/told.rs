@@ -9,7 +9,6 @@ const DEFAULT: &str = "let default = ";
 
 /// Where the rows of a job are loaded, and what comes behind.
 const LOAD: &str = "match loading::load(";
-const LOADED: &str = "if (request as usize)";
 
 fn before_choice(new: &str) -> Planted {
     real().before(FAMILIES, "family_offer", CHOSEN, new)
@@ -70,14 +69,14 @@ fn what_cannot_be_told() {
 fn a_reference_in_a_field() {
     let item = "\nstruct Lent<'a> {\n    table: &'a mut [Row],\n    own: u32,\n}\n";
     let lent = "let lent = Lent { table: &mut *rows, own: 0 };\n    lent.table[0] = Row::BLANK;";
-    let planted = real().before("query/call", "search_with", LOADED, lent);
+    let planted = real().loaded(lent);
     planted.with("query/call", item).finds(
         "query::call::search_with",
         "`lent` writes the family `rows`",
     );
     let item = item.replace("&'a mut", "&'a");
     let lent = "let lent = Lent { table: &*rows, own: 0 };\n    lent.own = 1;";
-    let planted = real().before("query/call", "search_with", LOADED, lent);
+    let planted = real().loaded(lent);
     planted.with("query/call", &item).finds_nothing();
 }
 

@@ -9,9 +9,9 @@ use Rattle.matching.specs.Rows.{either_refusal}
 use Rattle.matching.proofs.Taken.{refusal_below, refusal_none, refusal_more, refusal_all, faces_over}
 use Rattle.matching.proofs.matching.faces_refusal.Goals as goal
 
-pub returns-then-count-gt64 : goal.returns-then-count-gt64
+pub returns-then-count-gt64-clause-value : goal.returns-then-count-gt64-clause-value
 unfolding refusal_in number
-returns-then-count-gt64 c = sym (faces_over c.args.fonts.now c.args.count c.if-count-gt64.true)
+returns-then-count-gt64-clause-value c = sym (faces_over c.args.fonts.now c.args.count c.if-count-gt64.true)
 
 pub loop-font-init : goal.loop-font-init
 unfolding refusal_in
@@ -25,8 +25,8 @@ loop-font-preserved c =
     (c.either_refusal-found.ensures
     ∙ ap (λ (f : FontInfo). either_refusal (refusal_in l.found) (face_refusal f)) (get_or-take a.count a.fonts.now l.font-index no_face (omega arith)))
 
-pub returns : goal.returns
-returns c =
+pub returns-clause-value : goal.returns-clause-value
+returns-clause-value c =
     let a = c.args in
     let l = c.loop-font in
     let end : l.font-index ≡ a.count = omega arith in

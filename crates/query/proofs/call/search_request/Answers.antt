@@ -33,7 +33,7 @@ place_of_face-requires c =
     let found = c.request_offer.ensures in
     let same = ap (λ p. p.now) (sym found.kept.0) in
     record {
-      section_in = subst (λ (s : List ℕ). SectionIn s c.args.walked.overrides) same c.requires.tables_of.2;
+      section_in = subst (λ (s : List ℕ). SectionIn s c.args.overrides) same c.requires.tables_of.2;
       names = subst (λ (s : List ℕ). Names s c.in_ok-offer.offer) same (found_names _ _ _ _ c.attributes_at-wanted.ensures c.request_of-request.ensures found.value c.in_ok-offer.was);
     }
 

@@ -18,7 +18,7 @@ pub search_request-requires : goal.search_request-requires
 unfolding walk_in
 search_request-requires c =
     let loads = c.in-Ok.ensures in
-    record { tables_of = (loads.loaded refl, loads.uncounted refl, loads.overrides refl); request_in_bounds = request_inside (reading_stands c.args.reading) loads refl c.if-request-walked.true }
+    record { tables_of = (loads.loaded refl, loads.uncounted refl, loads.overrides refl); request_in_bounds = request_inside (reading_stands c.args.reading) loads refl c.in-Some.is }
 
 pub returns-in-Err : goal.returns-in-Err
 unfolding walk_in search_in
@@ -27,13 +27,13 @@ returns-in-Err c =
     finds_none _ (not_zero _)
     (job_refused _ _ known _ _ _ (refusal_is known c.in-Err.ensures) (not_zero _))
 
-pub returns-then-request-walked : goal.returns-then-request-walked
-unfolding walk_in
-returns-then-request-walked c =
-    let loads = c.in-Ok.ensures in
-    finds_same (request_answered (reading_stands c.args.reading) loads refl c.if-request-walked.true _) (c.search_request.ensures _ (loads.shown refl))
-
-pub returns-else-request-walked : goal.returns-else-request-walked
+pub returns-in-None : goal.returns-in-None
 unfolding walk_in search_in number
-returns-else-request-walked c =
-    finds_none 28 (λ z. omega arith) (unknown_request (reading_stands c.args.reading) c.in-Ok.ensures refl c.if-request-walked.false _)
+returns-in-None c =
+    finds_none 28 (λ z. omega arith) (unknown_request (reading_stands c.args.reading) c.in-Ok.ensures refl c.in-None.is _)
+
+pub returns-in-Some : goal.returns-in-Some
+unfolding walk_in
+returns-in-Some c =
+    let loads = c.in-Ok.ensures in
+    finds_same (request_answered (reading_stands c.args.reading) loads refl c.in-Some.is _) (c.search_request.ensures _ (loads.shown refl))

@@ -1,6 +1,5 @@
 -- The family that lies at the position, by the part of the job that holds its face numbers.
 use mathlib.Core.Path.{◌≡◌, refl, sym, ◌∙◌}
-use native.Mathlib.Omega.{arith}
 use Rattle.font.specs.Tables.{u16_at}
 use Rattle.matching.specs.Rows.{family_of_rows}
 use Rattle.query.specs.Offers.{pick}

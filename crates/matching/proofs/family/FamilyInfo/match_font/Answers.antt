@@ -21,29 +21,29 @@ pub returns-then-eq : goal.returns-then-eq
 unfolding fetched fetched_in fetch_refusal checked number
 returns-then-eq c =
     let a = c.args in
-    let refused = over_test _ c.faces_refusal-refusal.result c.faces_refusal-refusal.ensures c.if-eq.ensures in
+    let refused = over_test _ c.faces_refusal-refusal.result c.faces_refusal-refusal.ensures.value c.if-eq.ensures in
     ap (given a.self a.place) (sym (rw refused))
 
 pub offset_bounds-self-place : goal.offset_bounds-self-place
 offset_bounds-self-place c =
-    let refused = over_test _ c.faces_refusal-refusal.result c.faces_refusal-refusal.ensures c.if-eq.ensures in
+    let refused = over_test _ c.faces_refusal-refusal.result c.faces_refusal-refusal.ensures.value c.if-eq.ensures in
     omega (arith, few c.args.self refused)
 
 pub bounds-self-place : goal.bounds-self-place
 bounds-self-place c =
-    let refused = over_test _ c.faces_refusal-refusal.result c.faces_refusal-refusal.ensures c.if-eq.ensures in
+    let refused = over_test _ c.faces_refusal-refusal.result c.faces_refusal-refusal.ensures.value c.if-eq.ensures in
     omega (arith, few c.args.self refused)
 
 pub returns-then-place-self : goal.returns-then-place-self
 unfolding fetched fetched_in fetch_refusal checked number
 returns-then-place-self c =
     let a = c.args in
-    let refused = over_test _ c.faces_refusal-refusal.result c.faces_refusal-refusal.ensures c.if-eq.ensures in
+    let refused = over_test _ c.faces_refusal-refusal.result c.faces_refusal-refusal.ensures.value c.if-eq.ensures in
     ap (given a.self a.place) (sym (rw (refused, lt-ltb a.place a.self.count c.if-place-self.true)))
 
 pub returns-else-place-self : goal.returns-else-place-self
 unfolding fetched fetched_in fetch_refusal checked number
 returns-else-place-self c =
     let a = c.args in
-    let refused = over_test _ c.faces_refusal-refusal.result c.faces_refusal-refusal.ensures c.if-eq.ensures in
+    let refused = over_test _ c.faces_refusal-refusal.result c.faces_refusal-refusal.ensures.value c.if-eq.ensures in
     ap (given a.self a.place) (sym (rw (refused, le-ltb a.place a.self.count c.if-place-self.false)))

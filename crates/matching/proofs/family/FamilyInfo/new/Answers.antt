@@ -1,4 +1,4 @@
-use Rattle.std.proofs.Common.{rules, arith, ◌≡◌, ℕ, Err, cond, eqb, sym, ◌∙◌}
+use Rattle.std.proofs.Common.{rules, arith, ◌≡◌, ℕ, Err, cond, eqb, sym, ◌∙◌, ap}
 use borrow.Author.Tests.{eq-eqb, ne_eqb}
 use Rattle.font.specs.Refusals.{refusal_in}
 use Rattle.matching.specs.Matching.{family_of, faces_refusal, default_place}
@@ -23,14 +23,11 @@ returns-in_err-take_faces c =
     let none = zero_unless (faces_refusal a.fonts a.count) (default_place (family_of a.fonts a.count)) (λ d. omega (arith, some_number why, e, d)) in
     rw z (λ k. record { refusal = e k; family = record { fonts = a.fonts; count = a.count; default_font = none k } })
 
-pub invariant_of-family : goal.invariant_of-family
-invariant_of-family c = record { placed = (whole c.args.fonts c.args.count c.take_faces.new.rows c.in_ok-take_faces.ensures.taken).placed }
-
 pub returns : goal.returns
 unfolding refusal_in made_in made_of
 returns c =
     let a = c.args in
     let e = c.in_ok-take_faces.ensures.value in
     let w = whole a.fonts a.count c.take_faces.new.rows c.in_ok-take_faces.ensures.taken in
-    let placed = c.default_place.ensures ∙ w.default_of ∙ kept (faces_refusal a.fonts a.count) (default_place (family_of a.fonts a.count)) (sym e) in
+    let placed = c.default_place.ensures ∙ ap default_place c.of_faces-family.ensures.0 ∙ w.default_of ∙ kept (faces_refusal a.fonts a.count) (default_place (family_of a.fonts a.count)) (sym e) in
     λ k. record { refusal = e k; family = record { fonts = a.fonts; count = a.count; default_font = placed k } }

@@ -10,7 +10,7 @@ use Rattle.query.specs.CallTables.{begin_of, known_of}
 use Rattle.query.specs.Listed.{offers_at, row_offers}
 use Rattle.query.proofs.Picked.{pick_past}
 use Rattle.query.proofs.FamilyLists.{Passed, passed_by}
-use Rattle.query.proofs.RowFamilies.{unknown_number, members_known, number_by_rows, number_few, still_loaded, one_counted}
+use Rattle.query.proofs.RowFamilies.{unknown_number, number_by_rows, number_few, still_loaded, one_counted}
 use Rattle.query.proofs.Loaded.{tables_of, loaded_of}
 use Rattle.query.proofs.offers.Search.number_offer.Goals as goal
 use Rattle.query.proofs.offers.Search.number_offer.Goals.{After-entry_offer-offer}
