@@ -13,12 +13,14 @@ pub fn embolden_word(on: bool) -> [u8; 2]
     if on { [b' ', b'b'] } else { [b' ', b'-'] }
 }
 
-// Prints a skew, and answers its magnitude.
+// Prints a skew, and answers its magnitude: the number that stands behind the sign.
 pub fn print_skew(rt: &impl Print, skew: i8) -> io::Result<u64>
     ensures { IfOk result (λ size. size ≡ nat_abs skew) }
 {
-    print!(rt; " {skew}")?;
-    Ok(u64::from(skew.unsigned_abs()))
+    let sign = if skew < 0 { "-" } else { "" };
+    let size = u64::from(skew.unsigned_abs());
+    print!(rt; " {sign}{size}")?;
+    Ok(size)
 }
 
 // A setting: the tag's four characters, and the bits of the value. No setting is a NaN.
@@ -28,13 +30,14 @@ fn print_setting(rt: &impl Print, setting: Setting) -> io::Result<()> {
     print!(rt; "={}", Bits(setting.value))
 }
 
-// Prints the settings, and answers how many there are.
+// Prints the settings, and answers how many there are: it counts those that it printed.
 pub fn print_settings(rt: &impl Print, synthesis: Synthesis) -> io::Result<u8>
     ensures { IfOk result (λ n. n ≡ min synthesis.len 3) }
 {
-    let count = synthesis.len.min(3);
-    for setting in &synthesis.settings[..count as usize] {
+    let mut printed = 0;
+    for setting in &synthesis.settings[..synthesis.len.min(3) as usize] {
         print_setting(rt, *setting)?;
+        printed += 1;
     }
-    Ok(count)
+    Ok(printed)
 }
