@@ -5,6 +5,9 @@
 //! several of them packed in one entry of the one list; what the compiler copies; callers in other crates than the five
 //! that it reads; and a choice in other words, which calls no stage and nothing that ranks.
 //!
+//! A face's row, a struct, counts as an array of its numbers. The one that is looked at may be alive in the choice: where
+//! a closure hands it on, it is the same one.
+//!
 //! A closure counts where it is written, and a function that is handed on where it is named, each as if it were called
 //! once there. Of a value that only a closure knows the type may be open: then each of our own methods of a name is
 //! followed, and a field or an entry of the value is taken to hold no array. An error of a `Result` that has an array is

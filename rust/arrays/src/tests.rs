@@ -6,6 +6,7 @@ mod outside;
 mod parsing;
 mod passed;
 mod planted;
+mod rows;
 mod short;
 mod tokens;
 mod told;
@@ -140,7 +141,7 @@ fn what_was_counted() {
         "  beside `families`: [u32; 64], 256 bytes, of query::call::search_with "
     ));
     let choice = lines.iter().find(|l| l.starts_with("choice: "));
-    let counted = "2 loops, 0 arrays made, 0 writes of entries, at most 0 entries alive";
+    let counted = "2 loops, 0 arrays made, 0 writes of entries, at most 5 entries alive";
     assert!(choice.is_some_and(|l| l.ends_with(counted)), "{choice:?}");
     let last = "arrays: 8 ways, at most 1 list of 64 beside the family, 0 arrays in the choice";
     assert_eq!(lines.last().map(String::as_str), Some(last));

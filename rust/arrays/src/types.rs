@@ -6,9 +6,15 @@ use crate::constants::number;
 use crate::program::{Program, Scope};
 use crate::tree::{Definition, TypeTree};
 
-/// The most entries of an array that is no list: what one face has, its 16 axes. It is for
+/// The most entries of an array that is no list: what one face has, its row of five numbers or its 16 axes. It is for
 /// the part before the choice, where the faces are taken.
 pub const MOST_OF_A_FACE: usize = 16;
+
+/// The most entries that are alive together in the choice: the row of the one face that a scan looks at.
+pub const MOST_IN_THE_CHOICE: usize = 5;
+
+/// The type of that row: a struct, which counts as a short array of its numbers.
+const ROW: &str = "matching::rows::Row";
 
 #[derive(Clone, Debug, PartialEq, Eq)]
 pub enum Type {
@@ -98,6 +104,11 @@ impl Type {
 
     pub fn is_reference(&self) -> bool {
         matches!(self, Self::Reference { .. })
+    }
+
+    /// Whether it is the type of a face's row.
+    pub fn is_row(&self) -> bool {
+        matches!(self, Self::Named(path) if path == ROW)
     }
 
     /// The type behind references.
@@ -192,6 +203,7 @@ impl Program {
     pub fn held(&self, of: &Type) -> Told<Held> {
         match of {
             Type::Array(inner, length) => self.held_by_array(inner, *length),
+            Type::Named(_) if of.is_row() => self.held_by_row(),
             Type::Named(path) => {
                 let mut most = Held::default();
                 for variant in 0..self.variants(path) {
@@ -244,11 +256,21 @@ impl Program {
         }
     }
 
-    /// Short arrays in a short one count as one of all their entries.
+    /// The numbers of a row count as the entries of one array.
+    fn held_by_row(&self) -> Told<Held> {
+        let fields = self.fields(ROW, 0)?;
+        let mut held = self.held_by_array(&Type::plain("u32"), fields.len())?;
+        for (_, field) in fields {
+            held.add(&self.held(&field)?);
+        }
+        Ok(held)
+    }
+
+    /// Short arrays in a short one, or rows, count as one of all their entries.
     fn held_by_array(&self, inner: &Type, length: usize) -> Told<Held> {
         let each = self.held(inner)?;
         let mut held = Held::default();
-        let nested = matches!(inner, Type::Array(_, _));
+        let nested = matches!(inner, Type::Array(_, _)) || inner.is_row();
         let entries = if nested && length <= MOST_OF_A_FACE {
             each.small * length
         } else {

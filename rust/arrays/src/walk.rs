@@ -149,6 +149,8 @@ pub struct Walker<'p> {
     stages: Vec<&'p str>,
     /// What the closure that comes next is handed, where it is known.
     handed: Vec<Value>,
+    /// The rows that closures of the choice were handed, and that have not gone on yet.
+    rows: BTreeSet<usize>,
 }
 
 impl<'p> Walker<'p> {
@@ -171,6 +173,7 @@ impl<'p> Walker<'p> {
             choice: None,
             stages: Vec::new(),
             handed: Vec::new(),
+            rows: BTreeSet::new(),
         }
     }
 

@@ -69,7 +69,7 @@ fn a_copy_of_the_candidates_between_style_and_weight() {
     planted.finds(CHOICE, "`kept` is written in the choice");
     planted.finds(CHOICE, "`kept`: [Row; 64] (crates/matching/src/stages.rt:");
     let lines = crate::check(&planted.sources).lines;
-    let counted = "3 loops, 1 arrays made, 1 writes of entries, at most 64 entries alive";
+    let counted = "3 loops, 1 arrays made, 1 writes of entries, at most 69 entries alive";
     let choice = lines.iter().find(|l| l.starts_with("choice: "));
     assert!(choice.is_some_and(|l| l.ends_with(counted)), "{choice:?}");
 }
@@ -100,6 +100,8 @@ fn short_arrays_in_the_choice() {
     made.finds(CHOICE, "an array [u8; 5] is made in the choice");
     let listed = between("let kept = [percent, percent];");
     listed.finds(CHOICE, "an array [u32; 2] is made in the choice");
+    let two = between("let one = self.row(0);\n    let other = self.row(1);");
+    two.finds(CHOICE, "`other`: Row is an array in the choice");
     let two = between("let one = NUMBERS;\n    let other = NUMBERS;");
     let item = "\nconst NUMBERS: [u32; 5] = [0u32; 5];\n";
     two.with(STAGES, item)
@@ -114,6 +116,11 @@ fn short_arrays_in_the_choice() {
 
 #[test]
 fn an_array_written_in_the_weight_stage() {
+    let planted = real().before(STAGES, "weight_rank", "if face.", "face.percent = 0;");
+    planted.finds(
+        "matching::stages::weight_rank",
+        "`face` is written in the choice",
+    );
     let item = "\nconst NUMBERS: [u32; 5] = [0u32; 5];\n";
     let kept = "let mut kept = NUMBERS;\n    kept[0] = 0;";
     let planted = real().before(STAGES, "weight_rank", "if face.", kept);

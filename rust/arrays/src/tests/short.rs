@@ -1,4 +1,4 @@
-//! Short arrays: before the choice they are what one face has, at the choice and in it there is none.
+//! Short arrays: before the choice they are what one face has, at the choice there is none but the row that is looked at.
 
 use super::{Planted, real};
 
@@ -38,8 +38,15 @@ fn one_at_the_choice() {
 
 #[test]
 fn a_row_that_waits_for_the_choice() {
-    found(&at_the_choice("let kept = [family.rows[0]];"), 1);
-    at_the_choice("let kept = family.rows[0];").finds_nothing();
+    found(&at_the_choice("let kept = family.rows[0];"), 5);
+    found(&at_the_choice("let kept = [family.rows[0]];"), 5);
+    let three = "let a = family.rows[0];
+        let b = family.rows[1];
+        let c = family.rows[2];";
+    at_the_choice(three).finds(
+        "query::families::family_offer",
+        "short arrays with 15 entries at the choice: `a`, `b`, `c`",
+    );
 }
 
 #[test]
@@ -80,15 +87,24 @@ fn one_more_than_a_face_has() {
 #[test]
 fn one_in_the_choice_that_is_no_row() {
     let at = "let style = ";
-    for (of, value) in [("[u64; 5]", "[0u64; 5]"), ("[Row; 1]", "[Row::BLANK; 1]")] {
+    for (of, value) in [
+        ("[u64; 5]", "[0u64; 5]"),
+        ("[u32; 2]", "[0u32; 2]"),
+        ("[Row; 1]", "[Row::BLANK; 1]"),
+    ] {
         let item = format!("\nconst TABLE: {of} = {value};\n");
         let planted = real().before(STAGES, "choose", at, "let kept = TABLE[0];");
         planted.with(STAGES, &item).finds(
             "matching::rows::FamilyRows::choose",
-            &format!("`a value without a name`: {of} is an array in the choice"),
+            &format!("`a value without a name`: {of} in the choice is no row"),
         );
     }
     let row = "\nconst TABLE: Row = Row::BLANK;\n";
-    let planted = real().before(STAGES, "choose", at, "let kept = TABLE;");
+    let planted = real().before(STAGES, "choose", at, "let kept = TABLE.percent;");
     planted.with(STAGES, row).finds_nothing();
+    let planted = real().before(STAGES, "choose", at, "let kept = TABLE;");
+    planted.with(STAGES, row).finds(
+        "matching::rows::FamilyRows::choose",
+        "`face`: Row is an array in the choice, 10 entries together",
+    );
 }

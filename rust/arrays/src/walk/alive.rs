@@ -4,7 +4,7 @@ use std::collections::BTreeSet;
 
 use super::{Ask, Live, Storage, Value, Walker};
 use crate::tree::{Expr, Kind};
-use crate::types::Type;
+use crate::types::{MOST_IN_THE_CHOICE, Type};
 
 impl<'p> Walker<'p> {
     /// A value of a type begins to live under a name.
@@ -42,7 +42,7 @@ impl<'p> Walker<'p> {
         Storage::Array(id)
     }
 
-    /// In the choice no array may be alive.
+    /// In the choice no array but one face's row may be alive.
     fn test_choice(&mut self, name: &str, of: &Type, line: usize) {
         let Some(from) = self.choice else { return };
         let mut entries = 0;
@@ -51,11 +51,17 @@ impl<'p> Walker<'p> {
             entries += held.small + held.lists.iter().sum::<usize>();
         }
         self.way.seen.entries = self.way.seen.entries.max(entries);
-        let what = format!("`{name}`: {of} is an array in the choice, {entries} entries together");
-        self.find(line, &what);
+        if MOST_IN_THE_CHOICE < entries {
+            let what =
+                format!("`{name}`: {of} is an array in the choice, {entries} entries together");
+            self.find(line, &what);
+        }
+        if !of.is_row() {
+            self.find(line, &format!("`{name}`: {of} in the choice is no row"));
+        }
     }
 
-    /// In the choice no array is made, of whatever length.
+    /// In the choice no array is made, of whatever length, and no row: a face's row is read where it lies.
     pub(super) fn made(&mut self, line: usize, of: &Type) {
         if self.choice.is_some() {
             let place = self.place(line);

@@ -41,8 +41,8 @@ impl<'p> Walker<'p> {
             };
             return self.holding(line, Type::Perhaps(Box::new(inner)), &values, ask);
         }
-        if self.local(path).is_some() {
-            return self.called(line, given, ask);
+        if let Some(closure) = self.local(path) {
+            return self.called(line, closure, given, ask);
         }
         let whole = self.program.whole(self.scope(), path);
         if let Some(entry) = whole.and_then(|w| self.program.functions.get_key_value(&w)) {
@@ -60,12 +60,17 @@ impl<'p> Walker<'p> {
         self.unread(line, &format!("the call of {name} is not known"))
     }
 
-    /// What is handed to a closure counts here: what the closure does counted where it was written.
-    fn called(&mut self, line: usize, given: &'p [Expr], ask: Ask) -> Value {
+    /// What is handed to a closure counts here: what the closure does counted where it was written. So in the choice
+    /// nothing else may be alive here.
+    fn called(&mut self, line: usize, closure: Value, given: &'p [Expr], ask: Ask) -> Value {
+        if self.choice.is_some_and(|from| from < self.alive.len()) {
+            self.find(line, "a closure is called in the choice beside a row");
+        }
         for value in self.each(given, ask) {
             self.fresh(line, value.of, ask.unbound());
         }
-        Value::passed()
+        let of = closure.of.clone();
+        self.holding(line, of, &[closure], ask)
     }
 
     /// A function that is handed on counts where it is named, as if it were called there.
@@ -328,7 +333,11 @@ impl<'p> Walker<'p> {
                 );
                 self.find(parameter.line, &what);
             }
-            self.declare(parameter.line, &parameter.name, value, true);
+            if self.goes_on(&value) {
+                self.frame().locals.push((&parameter.name, value));
+            } else {
+                self.declare(parameter.line, &parameter.name, value, true);
+            }
         }
     }
 }

@@ -1,6 +1,6 @@
 //! The choice, and what holds in it.
 
-use super::{Live, Value, Walker};
+use super::{Live, Storage, Value, Walker};
 use crate::program::Item;
 use crate::tree::Function;
 use crate::types::Type;
@@ -43,6 +43,24 @@ impl<'p> Walker<'p> {
             let names = names.join(", ");
             let what = format!("short arrays with {entries} entries at the choice: {names}");
             self.find(line, &what);
+        }
+    }
+
+    /// The rows among what began to live behind so many: a closure of the choice was handed them.
+    pub(super) fn may_go_on(&mut self, alive: usize) {
+        if self.choice.is_some() {
+            let lives = &self.way.lives;
+            let handed = self.alive[alive..].iter().copied();
+            self.rows.extend(handed.filter(|id| lives[*id].of.is_row()));
+        }
+    }
+
+    /// The row that a closure was handed goes on to one call by value, and counts as the same one there.
+    pub(super) fn goes_on(&mut self, value: &Value) -> bool {
+        let storage: Vec<&Storage> = value.storage.iter().collect();
+        match storage[..] {
+            [Storage::Array(id)] if value.of.is_row() => self.rows.remove(id),
+            _ => false,
         }
     }
 

@@ -10,9 +10,6 @@ use crate::types::Type;
 /// The function that loads a job's faces into what is lent to it.
 pub const LOAD: &str = "query::loading::load";
 
-/// What a face is loaded as.
-const ROW: &str = "matching::rows::Row";
-
 impl<'p> Walker<'p> {
     /// The function that the way begins with. By value the lists that it is handed are the family; on a job they are
     /// beside it, unless they are lent to be loaded.
@@ -85,7 +82,7 @@ fn lends_rows(of: &Type) -> bool {
             mutable: true,
             inner,
         } => match &**inner {
-            Type::Array(row, _) | Type::Slice(row) => **row == Type::Named(ROW.into()),
+            Type::Array(row, _) | Type::Slice(row) => row.is_row(),
             _ => false,
         },
         _ => false,

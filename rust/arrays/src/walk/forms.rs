@@ -79,6 +79,7 @@ impl<'p> Walker<'p> {
             }
             self.bind(line, pattern, value, ask.later);
         }
+        self.may_go_on(alive);
         let value = self.value(body, ask.bound());
         self.frame().locals.truncate(locals);
         self.alive.truncate(alive);
@@ -275,6 +276,10 @@ impl<'p> Walker<'p> {
                 value.of = of.clone();
             }
         }
-        self.holding(line, Type::Named(whole), &values, ask)
+        let of = Type::Named(whole);
+        if of.is_row() {
+            self.made(line, &of);
+        }
+        self.holding(line, of, &values, ask)
     }
 }
