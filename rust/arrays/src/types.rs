@@ -111,6 +111,20 @@ impl Type {
         matches!(self, Self::Named(path) if path == ROW)
     }
 
+    /// The type of a value by two that are told of it: `None` leaves open what there may be.
+    pub fn or(self, other: Self) -> Self {
+        match (self, other) {
+            (one, Self::Passed) => one,
+            (Self::Passed | Self::Unit, other) => other,
+            (Self::Perhaps(one), Self::Perhaps(other)) => Self::Perhaps(Box::new(one.or(*other))),
+            (Self::Tuple(ones), Self::Tuple(others)) if ones.len() == others.len() => {
+                let parts = ones.into_iter().zip(others);
+                Self::Tuple(parts.map(|(one, other)| one.or(other)).collect())
+            }
+            (one, _) => one,
+        }
+    }
+
     /// The type behind references.
     pub fn target(&self) -> &Self {
         match self {

@@ -66,6 +66,22 @@ impl Row {
 fn an_array_that_may_be_there() {
     found("let kept = Some([0u8; 64]);", "`kept`: Option<[u8; 64]>");
     found("let kept = (n, [0u8; 64]);", "`kept`: (usize, [u8; 64])");
+    for kept in [
+        "if n == 0 { None } else { Some([0u8; 64]) }",
+        "match n { 0 => None, _ => Some([0u8; 64]) }",
+        "if n == 0 { Err(n) } else { Ok([0u8; 64]) }",
+    ] {
+        let words = "`kept`: Option<[u8; 64]>";
+        found(&format!("let kept = {kept};"), words);
+    }
+    let all = "let kept = [None, Some([0u8; 64])];";
+    found(all, "`kept`: [Option<[u8; 64]>; 2]");
+    let given = "let kept = None.unwrap_or([0u8; 64]);";
+    found(given, "`kept`: [u8; 64]");
+    found(
+        "let mut kept = None;\n    kept = Some([0u8; 5]);",
+        "`kept`: Option<?> is given Option<[u8; 5]>",
+    );
     found(
         "let Some(kept) = Some([0u8; 64]) else { return Err(n); };",
         "`kept`: [u8; 64]",

@@ -104,6 +104,7 @@ impl<'p> Walker<'p> {
         self.frame().locals.push((name, value));
     }
 
+    /// What a place is given may hold no array that its type does not tell, as that of `None`.
     pub(super) fn assign(
         &mut self,
         line: usize,
@@ -112,8 +113,13 @@ impl<'p> Walker<'p> {
         ask: Ask,
     ) -> Value {
         let later = self.leads_to_choice(place);
-        self.value(given, ask.or(later).unbound());
+        let given = self.value(given, ask.or(later).unbound());
         let target = self.value(place, ask.or(true).unbound());
+        if self.has_array(&given.of) && !self.has_array(&target.of) {
+            let (root, _) = root_of(place);
+            let what = format!("`{root}`: {} is given {}", target.of, given.of);
+            self.find(line, &what);
+        }
         self.write(line, place, &target);
         Value::new(Type::Unit)
     }

@@ -41,9 +41,7 @@ fn values_of(statement: &Statement) -> Vec<&Expr> {
 fn merged(values: Vec<Value>) -> Value {
     let mut merged = Value::passed();
     for value in values {
-        if matches!(merged.of, Type::Passed | Type::Unit) && value.of != Type::Passed {
-            merged.of = value.of;
-        }
+        merged.of = merged.of.or(value.of);
         merged.storage.extend(value.storage);
     }
     merged

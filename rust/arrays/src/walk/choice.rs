@@ -26,11 +26,13 @@ impl<'p> Walker<'p> {
         else {
             return false;
         };
-        let holds = self
-            .program
-            .held(inner)
-            .map_or(true, |held| 0 < held.arrays);
-        holds || matches!(**inner, Type::Slice(_))
+        self.has_array(inner) || matches!(**inner, Type::Slice(_))
+    }
+
+    /// Whether a value of the type holds an array.
+    pub(super) fn has_array(&self, of: &Type) -> bool {
+        let held = self.program.held(of);
+        held.map_or(true, |held| 0 < held.arrays)
     }
 
     /// Where the choice begins no short array may be alive.

@@ -8,10 +8,10 @@ use crate::types::Type;
 
 /// Of two types of numbers the one that is stated.
 fn stated(left: Type, right: Type) -> Type {
-    if left == Type::Passed || left == Type::plain("number") {
+    if left == Type::plain("number") {
         return right;
     }
-    left
+    left.or(right)
 }
 
 impl<'p> Walker<'p> {

@@ -188,7 +188,7 @@ fn type_given(rule: Given, receiver: &Type, last: Type, name: &str) -> Type {
         Given::Flag => Type::plain("bool"),
         Given::Same => receiver.clone(),
         Given::Whole => perhaps(receiver.target().clone()),
-        Given::Inner => inner,
+        Given::Inner => inner.or(last),
         Given::Perhaps => perhaps(last),
         Given::Last => last,
         Given::Entry if inner == Type::Passed => Type::Passed,
