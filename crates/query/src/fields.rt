@@ -30,12 +30,13 @@ pub(crate) fn byte_at(job: &[u8], at: usize) -> u8
     job.get(at).copied().unwrap_or(0)
 }
 
-// A field of `size` bytes. Nothing refuses it but the end.
+// A field of `size` bytes. Nothing refuses it but the end, which is tested as where its number is read: the compiler makes one test
+// of the two.
 pub(crate) fn bytes(job: &[u8], at: usize, size: usize) -> Result<usize, Refused>
     ensures { (v : List ℕ → ℕ → ℕ) → end_in result ≡ ended (field size v job.now at) }
 {
-    match at.checked_add(size) {
-        Some(next) if next <= job.len() => Ok(next),
+    match job.len().checked_sub(size) {
+        Some(last) if at <= last => Ok(at + size),
         _ => Err(Refused {
             refusal: Refusal::PastEnd,
             position: at,
