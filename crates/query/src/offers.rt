@@ -39,8 +39,9 @@ impl<'a> Search<'a> {
     ghost use Rattle.query.specs.Search.{Keeps};
 
     // The n-th offer of the family of a number. An unknown number has none. A family is matched where its count is not noted
-    // yet, or where it has the offer.
-    fn number_offer(&mut self, family: u16, n: usize) -> Result<u16, usize>
+    // yet, or where it has the offer. The job is given beside the search, so that it is not read again for each number of a list.
+    fn number_offer(&mut self, job: &[u8], family: u16, n: usize) -> Result<u16, usize>
+        requires { job.now ≡ self.old.job.now }
         ensures value { result ≡ pick Ok Err (row_offers self.old.job.now self.old.rows.now self.old.request family) n }
         ensures kept { Keeps self.old self.new }
     {
@@ -54,7 +55,7 @@ impl<'a> Search<'a> {
             return Err(n - (known - 1));
         }
         let begin = noted % loading::COUNT_STEP;
-        let offer = families::entry_offer(self.job, wide(begin), self.rows, self.request, n);
+        let offer = families::entry_offer(job, wide(begin), self.rows, self.request, n);
         if let Err(left) = offer {
             self.families[number] = begin + loading::COUNT_STEP * ((n - left + 1) as u32);
         }
@@ -67,11 +68,12 @@ impl<'a> Search<'a> {
         ensures value { result ≡ pick Ok Err (in_turn (row_offers self.old.job.now self.old.rows.now self.old.request) (list_at self.old.job.now at)) n }
         ensures kept { Keeps self.old self.new }
     {
-        let count = fields::byte_at(self.job, at) as usize;
+        let job = self.job;
+        let count = fields::byte_at(job, at) as usize;
         let mut left = n;
         for k in 0..count {
-            let family = tables::u16_at(self.job, at + 1 + 2 * k);
-            match self.number_offer(family, left) {
+            let family = tables::u16_at(job, at + 1 + 2 * k);
+            match self.number_offer(job, family, left) {
                 Ok(place) => {
                     return Ok(Offer { family, place });
                 }

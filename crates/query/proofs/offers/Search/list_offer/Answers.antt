@@ -1,11 +1,10 @@
 -- The invariant: the families before `k` are passed, and `left` is what is left of the number.
 use Rattle.std.specs.Prelude.{Result}
-use Prim.Native.Nat.{ℕ, ◌+◌, ◌*◌}
+use Prim.Native.Nat.{ℕ, ◌+◌}
 use mathlib.Core.Path.{◌≡◌, sym, ◌∙◌, ap}
 use mathlib.Core.List.{List}
 use native.Mathlib.Omega.{arith}
 use lib.ListN.{drop}
-use Rattle.font.specs.Tables.{u16_at}
 use Rattle.query.specs.declared.answer.Offer.{Offer}
 use Rattle.query.specs.Values.{list_at}
 use Rattle.query.specs.Offers.{offer_of}
@@ -34,7 +33,7 @@ stepped c =
     kept.left
     ∙ one_more (offers c) (list c) l.k f.result l.left c.number_offer.result
     (omega arith)
-    (f.ensures ∙ (λ i. u16_at (kept.job i).now (c.args.at + 1 + 2 * l.k)) ∙ sym (list_number job c.args.at l.k (omega arith)))
+    (f.ensures ∙ sym (list_number job c.args.at l.k (omega arith)))
     (c.number_offer.ensures.value ∙ (λ i. places (row_offers (kept.job i).now (kept.rows i).now (kept.request i)) f.result l.left))
 
 pub returns-in-Ok-clause-value : goal.returns-in-Ok-clause-value

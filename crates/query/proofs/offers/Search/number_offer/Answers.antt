@@ -25,7 +25,7 @@ matched c =
     let self = c.args.self.now in
     c.entry_offer-offer.ensures
     ∙ ap (λ (xs : List ℕ). pick Ok Err xs c.args.n)
-    (ap (λ (at : ℕ). offers_at self.job.now at self.rows.now self.request) c.wide.ensures.0
+    ((λ i. offers_at (c.requires i) (c.wide.ensures.0 i) self.rows.now self.request)
     ∙ number_by_rows (tables_of self.loaded) c.args.family (omega arith) self.request)
 
 passed : (c : After-entry_offer-offer) (k : ℕ) → c.entry_offer-offer.result ≡ Err k
