@@ -1,5 +1,5 @@
 -- A family's offers: the held equal faces and what the default adds, how many they are, and what the list depends on.
-use Rattle.std.specs.Prelude.{Result, Ok, Err}
+use Rattle.std.specs.Prelude.{None, Some, Result, Ok, Err}
 use Prim.Native.Nat.{ℕ, zero, suc, ◌+◌, ◌≤◌, ◌<◌}
 use mathlib.Core.Path.{◌≡◌, refl, sym, ◌∙◌, ap}
 use mathlib.Core.Bool.{Bool, true, false, not, ◌&&◌, cond}
@@ -13,12 +13,12 @@ use Rattle.matching.specs.Below.{places_below}
 use Rattle.matching.specs.Order.{Family, same_face, choice, equal_places}
 use Rattle.matching.specs.Matching.{default_place}
 use Rattle.matching.specs.declared.rows.Row.{Row}
-use Rattle.matching.specs.Rows.{family_of_rows}
+use Rattle.matching.specs.Rows.{face_of_row, place_row, family_of_rows}
 use Rattle.matching.proofs.Below.{both}
 use Rattle.matching.proofs.Alike.{places_agree, choice_same, equal_same, default_same}
 use Rattle.query.specs.Offers.{pick, keep, among, held_equal, offers_default, family_offers}
 use Rattle.query.specs.CallTables.{held_row}
-use Rattle.query.specs.Listed.{default_offered, default_offers}
+use Rattle.query.specs.Listed.{equals_chosen, chosen_row, equals_row, default_offered, default_offers}
 use Rattle.query.proofs.Picked.{pick_then, pick_append}
 use Rattle.query.proofs.KeptPlaces.{equal_kept, none_kept, among_below}
 
@@ -72,6 +72,16 @@ default_offers_lem rows members count request =
 pub offered_in : (rows : List Row) (members : List ℕ) (count chosen d : ℕ) → default_offered rows members count chosen d ≡ true → d < count
 unfolding default_offered
 offered_in rows members count chosen d e = ltb-true d count (both (ltb d count) _ e).0
+
+-- a face equals the chosen one where it equals the chosen row
+pub by_chosen_row : (rows : List Row) (members : List ℕ) (count chosen : ℕ) (face : Row)
+    → equals_row (chosen_row rows members count chosen) face ≡ equals_chosen rows members count chosen face
+unfolding chosen_row equals_row
+by_chosen_row rows members count chosen face = go (ltb chosen count)
+  where
+    go : (b : Bool) → equals_row (cond b (Some (place_row rows members chosen)) None) face ≡ b && same_face (face_of_row face) (face_of_row (place_row rows members chosen))
+    go true = refl
+    go false = refl
 
 -- what follows the answer of the held equal faces, which are all the offers but these
 abbrev pub after_equal : List ℕ → (Result ℕ ℕ) → (Result ℕ ℕ)

@@ -1,5 +1,5 @@
 -- A family's offers by its rows, and what is known of how many there are. No promise to a user cites this.
-use Rattle.std.specs.Prelude.{ℕ, suc, ◌+◌, ◌*◌, ◌/◌, ◌^◌, ◌≤◌, ◌<◌, ◌≡◌, Bool, not, ◌&&◌, cond, List, [], ◌∷◌, ltb, length, get_or, take, drop, Option, None, Some, Result, Ok, Err}
+use Rattle.std.specs.Prelude.{ℕ, suc, ◌+◌, ◌*◌, ◌/◌, ◌^◌, ◌≤◌, ◌<◌, ◌≡◌, Bool, false, not, ◌&&◌, cond, List, [], ◌∷◌, ltb, length, get_or, take, drop, Option, None, Some, Result, Ok, Err}
 use Rattle.font.specs.Tables.{u16_at}
 use Rattle.font.specs.declared.attributes.Attributes.{Attributes}
 use Rattle.font.specs.declared.font.FontInfo.{FontInfo}
@@ -40,6 +40,14 @@ members_at s p = take (2 * u16_at s p) (drop (p + 2) s)
 -- a face equals the chosen one, if one is chosen
 abbrev pub equals_chosen : List Row → List ℕ → ℕ → ℕ → Row → Bool
 equals_chosen rows members count chosen face = ltb chosen count && same_face (face_of_row face) (face_of_row (place_row rows members chosen))
+
+-- the row of the chosen face, if one is chosen, and whether a face equals it: `equals_chosen` in two steps
+unfoldable pub chosen_row : List Row → List ℕ → ℕ → ℕ → Option Row
+chosen_row rows members count chosen = cond (ltb chosen count) (Some (place_row rows members chosen)) None
+
+unfoldable pub equals_row : Option Row → Row → Bool
+equals_row (Some chosen) face = same_face (face_of_row face) (face_of_row chosen)
+equals_row None face = false
 
 -- the default is held, and it is no held face that equals the chosen one
 unfoldable pub default_offered : List Row → List ℕ → ℕ → ℕ → ℕ → Bool

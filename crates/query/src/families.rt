@@ -6,7 +6,7 @@ ghost use Rattle.matching.specs.Matching.{place_or};
 ghost use Rattle.matching.specs.Rows.{family_of_rows};
 ghost use Rattle.query.specs.Offers.{pick, keep, family_offers};
 ghost use Rattle.query.specs.CallTables.{is_held, held_row};
-ghost use Rattle.query.specs.Listed.{MembersKnown, equals_chosen, default_offered, default_offers, offers_at};
+ghost use Rattle.query.specs.Listed.{MembersKnown, chosen_row, equals_row, default_offered, default_offers, offers_at};
 
 use font::tables;
 use matching::order::Request;
@@ -19,15 +19,23 @@ fn is_held(face: Row) -> bool
     face.marks / 2 % 2 == 1
 }
 
-// Whether a face equals the chosen one, if a face is chosen. It goes with its family, as in the definitions.
-fn equals_chosen(family: FamilyRows, chosen: Option<usize>, face: Row) -> bool
-    ensures { result ≡ equals_chosen family.entry.rows.now family.entry.members.now family.entry.count (place_or family.entry.count chosen) face }
+// The row of the chosen face, if a face is chosen. It goes with its family, as in the definitions.
+fn chosen_row(family: FamilyRows, chosen: Option<usize>) -> Option<Row>
+    ensures { result ≡ chosen_row family.entry.rows.now family.entry.members.now family.entry.count (place_or family.entry.count chosen) }
 {
-    // Not `is_some_and`, for the reason that `family_offer` names.
+    // Not `filter` and `map`, for the reason that `family_offer` names.
     match chosen {
-        Some(place) => place < family.count && family.row(place).same_face(face),
-        None => false,
+        Some(place) if place < family.count => Some(family.row(place)),
+        _ => None,
     }
+}
+
+// Whether a face equals the chosen one, if a face is chosen.
+#[tactic(auto, unfolding(crate::specs::Listed::equals_row))]
+fn equals_chosen(chosen: Option<Row>, face: Row) -> bool
+    ensures { result ≡ equals_row chosen face }
+{
+    chosen.is_some_and(|wanted| wanted.same_face(face))
 }
 
 // The n-th of the held faces that equal the chosen one, in place order. Else how far past them n lies: what is left of n is the
@@ -35,10 +43,11 @@ fn equals_chosen(family: FamilyRows, chosen: Option<usize>, face: Row) -> bool
 fn held_equal(family: FamilyRows, chosen: Option<usize>, n: usize) -> Result<u16, usize>
     ensures { result ≡ pick Ok Err (keep (held_row family.entry.rows.now family.entry.members.now) (equal_places (family_of_rows family.entry.rows.now family.entry.members.now family.entry.count) (place_or family.entry.count chosen))) n }
 {
+    let wanted = chosen_row(family, chosen);
     let mut left = n;
     for place in 0..family.count {
         let face = family.row(place);
-        if is_held(face) && equals_chosen(family, chosen, face) {
+        if is_held(face) && equals_chosen(wanted, face) {
             if left == 0 {
                 return Ok(place as u16);
             }
@@ -54,7 +63,7 @@ fn offers_default(family: FamilyRows, chosen: Option<usize>, default: usize) -> 
 {
     default < family.count
         && is_held(family.row(default))
-        && !equals_chosen(family, chosen, family.row(default))
+        && !equals_chosen(chosen_row(family, chosen), family.row(default))
 }
 
 // The n-th offer behind the held equal faces: the default, if it is offered, and nothing further.

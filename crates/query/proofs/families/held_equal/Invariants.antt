@@ -17,4 +17,4 @@ equal family chosen i =
     && equals_chosen family.rows.now family.members.now family.count chosen (place_row family.rows.now family.members.now i)
 
 abbrev pub invariant-loop-place : goal.invariant-loop-place
-invariant-loop-place l = l.n ≡ l.left + length (places_below (equal l.family (place_or l.family.count l.chosen)) l.place)
+invariant-loop-place l = l.n ≡ l.left + length (places_below (equal l.family (place_or l.family.count l.fn.chosen)) l.place)

@@ -5,7 +5,8 @@ use lib.Dec.{ltb}
 use Rattle.matching.specs.Matching.{place_or}
 use Rattle.matching.specs.Rows.{place_row}
 use Rattle.query.specs.CallTables.{is_held, held_row}
-use Rattle.query.specs.Listed.{equals_chosen, default_offered}
+use Rattle.query.specs.Listed.{equals_chosen, equals_row, default_offered}
+use Rattle.query.proofs.FamilyLists.{by_chosen_row}
 use Rattle.query.proofs.families.offers_default.Goals as goal
 use Rattle.query.proofs.families.offers_default.Goals.{then-default-family, else-default-family, Joined-default-family}
 
@@ -35,7 +36,10 @@ returns-then-is_held c =
     let family = c.args.family in
     let d = c.args.default in
     let equals = equals_chosen family.rows.now family.members.now family.count (place_or family.count c.args.chosen) in
-    let found = c.equals_chosen.ensures ∙ ap equals c.row-then-is_held.ensures in
+    let found = c.equals_chosen.ensures
+    ∙ ap (λ w. equals_row w c.row-then-is_held.result) c.chosen_row.ensures
+    ∙ by_chosen_row family.rows.now family.members.now family.count (place_or family.count c.args.chosen) c.row-then-is_held.result
+    ∙ ap equals c.row-then-is_held.ensures in
     ap not found
     ∙ both (ltb d family.count) (held_row family.rows.now family.members.now d) (equals (place_row family.rows.now family.members.now d))
     (sym (held (goal.at.returns-then-is_held c).Joined-default-family) ∙ c.if-is_held.true)
