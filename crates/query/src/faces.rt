@@ -81,9 +81,12 @@ fn override_face(job: &[u8], at: usize, font: FontInfo) -> FontInfo
     ensures { result ≡ overridden_by (override_at job.now at) font }
 {
     let count = fields::byte_at(job, at + sizes::OVERRIDE_COUNT) as usize;
-    let mut changed = with_pairs(job, at + sizes::OVERRIDE_HEAD, count, font);
-    changed.attributes = overrides::override_attributes(font.attributes, given_at(job, at));
-    changed
+    let paired = with_pairs(job, at + sizes::OVERRIDE_HEAD, count, font);
+    let attributes = overrides::override_attributes(font.attributes, given_at(job, at));
+    FontInfo {
+        attributes,
+        ..paired
+    }
 }
 
 // The face of a number, as its file states it, after those of the `count` overrides from `at` on that name it.

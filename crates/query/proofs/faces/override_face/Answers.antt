@@ -5,4 +5,4 @@ pub returns : goal.returns
 returns c =
     let start = c.args in
     face_overridden start.job.now start.at start.font
-    c.byte_at-count.ensures c.with_pairs-changed.ensures c.given_at.ensures c.override_attributes-changed.ensures
+    c.byte_at-count.ensures c.with_pairs-paired.ensures c.given_at.ensures c.override_attributes-attributes.ensures
