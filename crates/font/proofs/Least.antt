@@ -68,6 +68,11 @@ module _ (top : ℕ) (f : ℕ → ℕ) where
   best_rest m n c b l h w =
       le_ind (λ k. Best k c b) w (λ k g e. rw (← add-one k) (best_kept k c b e (omega (arith, h k g, below_top k, e.least)))) n l
 
+  -- nor do any where the least is 0
+  pub best_zero : (m n c b : ℕ) → c ≡ 0 → m ≤ n → Best m c b → Best n c b
+  best_zero m n c b z l w =
+      le_ind (λ k. Best k c b) w (λ k g e. rw (← add-one k) (best_kept k c b e (omega (arith, z)))) n l
+
   -- what the loop ends with
   best_is : (n c b : ℕ) → Best n c b → c < top → b ≡ first_least top f n
   unfolding first_least

@@ -8,7 +8,7 @@ use mathlib.Core.Logic.{◌⊎◌, inl, inr}
 use native.Mathlib.Omega.{arith}
 use lib.ListN.{length}
 use lib.Dec.{leb, ltb, eqb}
-use borrow.Author.Tests.{leb-true, le-leb, lt-leb, lt-ltb, le-ltb, ltb-true, ltb-false}
+use borrow.Author.Tests.{eqb-true, leb-true, le-leb, lt-leb, lt-ltb, le-ltb, ltb-true, ltb-false}
 use Rattle.font.specs.declared.tables.Table.{Table}
 use Rattle.font.specs.declared.tables.Table.TheVariants.{Absent, Damaged, Found}
 use Rattle.font.specs.declared.charmap.CharmapIndex.{CharmapIndex}
@@ -20,13 +20,13 @@ use Rattle.font.specs.contracts.charmap.ClassPartialOrd.TheImpl.{partial_cmp-val
 use Rattle.font.specs.declared.charmap.Class.{Class}
 use Rattle.font.specs.declared.charmap.Class.TheVariants.{Full, Basic, Symbol, MacRoman}
 use Rattle.font.specs.declared.charmap.BestRecord.{BestRecord}
-use Rattle.font.specs.First.{some}
+use Rattle.font.specs.First.{some, least_below}
 use Rattle.font.specs.Tables.{u16_at, find_table, part_of, table_data}
 use Rattle.font.specs.Charmap.{class_number, best_number, is_pair, class_of, subtable_offset_of, lies_in, pair_class, qualifies, record_class, some_qualifies, best_class, best_record, index_of, index_in, charmap_index_of}
 use Rattle.font.specs.Font.{has_index}
 use Rattle.font.proofs.Fields.{out16}
 use Rattle.font.proofs.First.{some_same}
-use Rattle.font.proofs.Least.{Best, best_rest, best_done, at_most, first_below, attained, some_below}
+use Rattle.font.proofs.Least.{Best, best_new, best_rest, best_zero, best_done, at_most, first_below, attained, some_below}
 
 -- a record that does not lie in the table has no class
 pub past : (cmap : List ℕ) (k : ℕ) → length cmap < 12 + 8 * k → record_class cmap k ≡ 4
@@ -54,11 +54,6 @@ class_low Full = omega arith
 class_low Basic = omega arith
 class_low Symbol = omega arith
 class_low MacRoman = omega arith
-
-pub number_at_most : (best : Option BestRecord) → best_number best ≤ 4
-unfolding best_number class_number
-number_at_most None = omega arith
-number_at_most (Some best) = omega (arith, class_low best.class)
 
 -- there is a class where the number is below 4
 pub is_class : (k : Option Class) → is_some k ≡ ltb (class_number k) 4
@@ -88,6 +83,13 @@ class_order MacRoman Full = refl
 class_order MacRoman Basic = refl
 class_order MacRoman Symbol = refl
 class_order MacRoman MacRoman = refl
+
+pub full_is : (k : Class) → sameb the_type k Full ≡ eqb (class_number (Some k)) 0
+unfolding class_number
+full_is Full = refl
+full_is Basic = refl
+full_is Symbol = refl
+full_is MacRoman = refl
 
 pub symbol_is : (k : Class) → sameb the_type k Symbol ≡ eqb (class_number (Some k)) 2
 unfolding class_number
@@ -174,6 +176,13 @@ module _ (cmap : List ℕ) (q : some_qualifies cmap ≡ true) where
       sym (has_class cmap (best_record cmap))
       ∙ lt-ltb (record_class cmap (best_record cmap)) 4 (omega (arith, attained 4 (record_class cmap) (u16_at cmap 2) best_low, best_low))
 
+-- the first record that has a class is the best so far
+pub best_first : (cmap : List ℕ) (k : Class) (n : ℕ) → class_number (Some k) ≡ record_class cmap n → least_below 4 (record_class cmap) n ≡ 4
+    → Best 4 (record_class cmap) (n + 1) (class_number (Some k)) n
+best_first cmap k n e none =
+    let so_far : Best 4 (record_class cmap) n 4 n = record { least = sym none; before = λ h. omega arith; first_of = λ h. absurd (omega arith) } in
+    rw e (best_new 4 (record_class cmap) n 4 n so_far (omega (arith, e, class_low k)))
+
 -- what a loop that keeps the best record ends with
 pub best_found : (cmap : List ℕ) (best : Option BestRecord) → Best 4 (record_class cmap) (u16_at cmap 2) (best_number best) (place best)
     → (best_number best ≡ best_class cmap) × IfSome best (λ b. (b.i ≡ best_record cmap) × (12 + 8 * b.i ≤ length cmap))
@@ -184,6 +193,14 @@ best_found cmap (Some best) w =
     let at = (best_done 4 (record_class cmap) (u16_at cmap 2) (class_number (Some best.class)) best.i w).1 low in
     let q : some_qualifies cmap ≡ true = sym (best_qualifies cmap) ∙ rw (← w.least) (lt-ltb (class_number (Some best.class)) 4 low) in
     (w.least, (at, omega (arith, at, (inside cmap (best_record cmap) (best_qualified cmap q)).0)))
+
+-- no later record is better than one of the first class of all
+pub full_found : (cmap : List ℕ) (k : Class) (i : ℕ) → i < u16_at cmap 2 → sameb the_type k Full ≡ true → Best 4 (record_class cmap) (i + 1) (class_number (Some k)) i
+    → (class_number (Some k) ≡ best_class cmap) × ((i ≡ best_record cmap) × (12 + 8 * i ≤ length cmap))
+unfolding best_number place
+full_found cmap k i l full w =
+    let zero = eqb-true (class_number (Some k)) 0 (sym (full_is k) ∙ full) in
+    best_found cmap (Some (record { class = k; i = i })) (best_zero 4 (record_class cmap) (i + 1) (u16_at cmap 2) (class_number (Some k)) i zero (omega arith) w)
 
 -- a record that has a class
 pub some_class : (cmap : List ℕ) (i : ℕ) → i < u16_at cmap 2 → record_class cmap i < 4 → true ≡ some_qualifies cmap

@@ -1,5 +1,6 @@
 // The charmap index: which `cmap` subtable maps characters to glyphs.
 ghost use Rattle.std.specs.Prelude.{◌≡◌, Some, ◌+◌, ◌-◌, ◌*◌, ◌/◌, ◌^◌, ◌≤◌, ◌<◌, min, length, ltb, IfSome};
+ghost use Rattle.font.specs.First.{least_below};
 ghost use Rattle.font.specs.Tables.{u16_at};
 ghost use Rattle.font.specs.Collection.{font_start};
 ghost use Rattle.font.specs.Charmap.{class_number, best_number, class_of, record_class, some_qualifies, best_class, best_record, index_of, charmap_index_of};
@@ -66,18 +67,15 @@ fn record_class(cmap: &[u8], i: usize) -> Option<Class>
 }
 
 // Whether a class is better than the best so far.
-#[tactic(auto, using(crate::proofs::Records::class_low, crate::proofs::Records::class_order), unfolding(crate::specs::Charmap::best_number))]
-fn is_better(class: Class, best: Option<BestRecord>) -> bool
-    ensures { result ≡ ltb (class_number (Some class)) (best_number best) }
+#[tactic(auto, using(crate::proofs::Records::class_order))]
+fn is_better(class: Class, best: BestRecord) -> bool
+    ensures { result ≡ ltb (class_number (Some class)) (class_number (Some best.class)) }
 {
-    match best {
-        Some(best) => class < best.class,
-        None => true,
-    }
+    class < best.class
 }
 
 // The number of the first records that are looked at: those that the table states and that lie whole in it. The table's four bytes
-// are asked here and by the two that call this, one below the other.
+// are asked here and by the three that call this, one below the other.
 fn whole_records(cmap: &[u8]) -> usize
     requires { 4 ≤ length cmap.now }
     ensures { result ≡ min (u16_at cmap.now 2) ((length cmap.now - 4) / 8) }
@@ -86,20 +84,42 @@ fn whole_records(cmap: &[u8]) -> usize
     count.min((cmap.len() - 4) / 8)
 }
 
-// The first record of the best class.
-fn best_record(cmap: &[u8]) -> Option<BestRecord>
-    requires { 4 ≤ length cmap.now }
-    ensures { (best_number result ≡ best_class cmap.now) × IfSome result (λ b. (b.i ≡ best_record cmap.now) × (12 + 8 * b.i ≤ length cmap.now)) }
+// The first record of the best class, where `first` is the first that has a class. No record is better than one of the class `Full`,
+// so such a one ends the search.
+fn best_from(cmap: &[u8], first: BestRecord) -> BestRecord
+    requires is_stated { (first.i < u16_at cmap.now 2) × (12 + 8 * first.i ≤ length cmap.now) }
+    requires is_first { (class_number (Some first.class) ≡ record_class cmap.now first.i) × (least_below 4 (record_class cmap.now) first.i ≡ 4) }
+    ensures { (class_number (Some result.class) ≡ best_class cmap.now) × ((result.i ≡ best_record cmap.now) × (12 + 8 * result.i ≤ length cmap.now)) }
 {
-    let mut best: Option<BestRecord> = None;
-    for i in 0..whole_records(cmap) {
-        if let Some(class) = record_class(cmap, i) {
+    if first.class == Class::Full {
+        return first;
+    }
+    let mut best = first;
+    for later in first.i + 1..whole_records(cmap) {
+        if let Some(class) = record_class(cmap, later) {
             if is_better(class, best) {
-                best = Some(BestRecord { class, i });
+                best = BestRecord { class, i: later };
+                if class == Class::Full {
+                    return best;
+                }
             }
         }
     }
     best
+}
+
+// The first record of the best class.
+// From the first that has a class on, the best so far is no `Option`, which would be asked about at each of up to 65,535 records.
+fn best_record(cmap: &[u8]) -> Option<BestRecord>
+    requires { 4 ≤ length cmap.now }
+    ensures { (best_number result ≡ best_class cmap.now) × IfSome result (λ b. (b.i ≡ best_record cmap.now) × (12 + 8 * b.i ≤ length cmap.now)) }
+{
+    for i in 0..whole_records(cmap) {
+        if let Some(class) = record_class(cmap, i) {
+            return Some(best_from(cmap, BestRecord { class, i }));
+        }
+    }
+    None
 }
 
 // The index of the best record of a `cmap` table that lies at `offset` in the file.

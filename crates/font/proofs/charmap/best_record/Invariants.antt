@@ -1,7 +1,6 @@
-use Rattle.font.specs.Charmap.{best_number, record_class}
+use Rattle.font.specs.Charmap.{record_class}
 use Rattle.font.proofs.Least.{Best}
-use Rattle.font.proofs.Records.{place}
 use Rattle.font.proofs.charmap.best_record.Given as goal
 
 abbrev pub invariant-loop-i : goal.invariant-loop-i
-invariant-loop-i l = Best 4 (record_class l.cmap) l.i (best_number l.best) (place l.best)
+invariant-loop-i l = Best 4 (record_class l.cmap) l.i 4 0
