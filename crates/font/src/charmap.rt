@@ -75,7 +75,7 @@ fn is_better(class: Class, best: BestRecord) -> bool
 }
 
 // The number of the first records that are looked at: those that the table states and that lie whole in it. The table's four bytes
-// are asked here and by the three that call this, one below the other.
+// are asked here, and by `best_record` and `index_of`, one below the other.
 fn whole_records(cmap: &[u8]) -> usize
     requires { 4 ≤ length cmap.now }
     ensures { result ≡ min (u16_at cmap.now 2) ((length cmap.now - 4) / 8) }
